@@ -1,0 +1,2 @@
+// The half-hour records of a plant.
+pub mod slot;

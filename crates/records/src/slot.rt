@@ -1,0 +1,31 @@
+// One half hour of a plant.
+
+// What the outage plan says of the half hour.
+#[derive(Clone, Copy, Debug, PartialEq, Eq)]
+pub enum Outage {
+    NoOutage,
+    PlannedStop,
+    UnplannedStop,
+    PlannedSuppression,
+    UnplannedSuppression,
+}
+
+// Supply, plan and offer are in kW, the meter in kWh.
+#[derive(Clone, Copy, Debug, PartialEq, Eq)]
+pub struct Slot {
+    // the highest output on offer
+    pub supply: u32,
+    // the planned generation
+    pub plan: u32,
+    // the unsold quantity that is for sale
+    pub offer: u32,
+    // the energy received
+    pub meter: u32,
+    pub outage: Outage,
+    // the reserve of the grid is low
+    pub low_reserve: bool,
+    // a dispatch instruction was given
+    pub dispatched: bool,
+    // papers for the offer were shown
+    pub papers: bool,
+}

@@ -1,0 +1,3 @@
+// The terms of a contract year, and the same once they are priced.
+pub mod contract;
+pub mod figures;
