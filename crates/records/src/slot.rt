@@ -1,4 +1,6 @@
 // One half hour of a plant.
+ghost use Rattle.std.specs.Orderings.{Decides};
+ghost use Rattle.records.specs.Slots.{Within};
 
 // What the outage plan says of the half hour.
 #[derive(Clone, Copy, Debug, PartialEq, Eq)]
@@ -28,4 +30,13 @@ pub struct Slot {
     pub dispatched: bool,
     // papers for the offer were shown
     pub papers: bool,
+}
+
+impl Slot {
+    // Whether each number is at most its limit.
+    pub fn is_within(&self) -> bool
+        ensures { λ r. ⌜ Decides r (Within (now (self .entry))) ⌝ }
+    {
+        self.supply <= 2_000_000 && self.plan <= 2_000_000 && self.offer <= 2_000_000 && self.meter <= 1_000_000
+    }
 }
