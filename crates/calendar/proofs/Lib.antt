@@ -1,3 +1,3 @@
-pub mod Table
+pub mod Entries
 pub mod Months
 pub mod Slots

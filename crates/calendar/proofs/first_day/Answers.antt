@@ -3,7 +3,7 @@ use mathlib.Core.Path.{_∙_, ap, sym}
 use native.Mathlib.Omega.{arith}
 use Rattle.std.specs.declared.option.Option.the-variants.{Some}
 use Rattle.calendar.specs.Calendar.{daysIn}
-use Rattle.calendar.proofs.Table.{at, entries}
+use Rattle.calendar.proofs.Entries.{at, entries}
 use Rattle.calendar.proofs.Months.{in-table}
 use Rattle.calendar.proofs.first_day.Needs as need
 
