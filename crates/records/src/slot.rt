@@ -37,6 +37,9 @@ impl Slot {
     pub fn is_within(&self) -> bool
         ensures { λ r. ⌜ Decides r (Within (now (self .entry))) ⌝ }
     {
-        self.supply <= 2_000_000 && self.plan <= 2_000_000 && self.offer <= 2_000_000 && self.meter <= 1_000_000
+        self.supply <= 2_000_000
+            && self.plan <= 2_000_000
+            && self.offer <= 2_000_000
+            && self.meter <= 1_000_000
     }
 }

@@ -1,15 +1,18 @@
-// What a rule comes to over the slots of a month.
+// A month's slots, assessed.
 ghost use mathlib.Core.Path.{_≡_};
-ghost use Prim.Native.Nat.{_≤_};
+ghost use Prim.Native.Nat.{_*_, _≤_};
+ghost use lib.ListN.{length};
 ghost use Rattle.std.specs.Options.{Cases as BySome};
 ghost use Rattle.std.specs.Orderings.{Decides};
 ghost use Rattle.std.specs.Results.{Cases};
 ghost use Rattle.std.specs.shelf.Lists.{All};
-ghost use Rattle.calendar.specs.Calendar.{slotsIn};
-ghost use Rattle.rules.specs.Months.{Fit, FirstUnfit, FitSlots, Refuses, month-units};
+ghost use Rattle.records.specs.Slots.{Within};
+ghost use Rattle.rules.specs.Months.{Fit, FirstUnfit, FitSlots, Refuses, Assesses, month-units};
+use crate::assessment::Assessment;
+use crate::assessment::OpenMonth;
+use crate::assessment::PerRule;
+use crate::assessment::SlotsRefusal;
 use crate::rule::Rule;
-use crate::slots::MonthSlots;
-use crate::slots::SlotsRefusal;
 use calendar::slots_in;
 use records::slot::Outage;
 use records::slot::Slot;
@@ -36,35 +39,61 @@ fn first_unfit(slots: &[Slot], assessed: u32) -> Option<usize>
     None
 }
 
-impl MonthSlots<'_> {
-    // The slots of a month of a fiscal year, if there are as many as it has and each can be assessed at the capacity.
-    pub fn new(
-        year: u16,
-        month: u8,
-        assessed: u32,
-        slots: &[Slot],
-    ) -> Result<MonthSlots<'_>, SlotsRefusal>
-        ensures { λ r. ⌜ Cases r (λ m. (now (m .slots) ≡ now (slots .entry)) × FitSlots (slotsIn year month) assessed (now (slots .entry))) (λ e. Refuses (slotsIn year month) assessed (now (slots .entry)) e) ⌝ }
-    {
-        match slots_in(year, month) {
-            Some(count) if slots.len() == count as usize => {}
-            _ => return Err(SlotsRefusal::WrongSlotCount),
-        }
-        match first_unfit(slots, assessed) {
-            Some(i) => Err(SlotsRefusal::UnfitSlot(i)),
-            None => Ok(MonthSlots { slots }),
-        }
+// Whether there are as many slots as the month has, and each can be assessed.
+fn check_slots(open: &OpenMonth, slots: &[Slot]) -> Result<(), SlotsRefusal>
+    ensures { λ r. ⌜ Cases r (λ _. FitSlots (now («open» .entry)) (now (slots .entry))) (λ e. Refuses (now («open» .entry)) (now (slots .entry)) e) ⌝ }
+{
+    match slots_in(open.year, open.month) {
+        Some(count) if slots.len() == count as usize => {}
+        _ => return Err(SlotsRefusal::WrongSlotCount),
     }
+    match first_unfit(slots, open.assessed) {
+        Some(place) => Err(SlotsRefusal::UnfitSlot(place)),
+        None => Ok(()),
+    }
+}
 
-    // The units of the month under a rule, the sum over its slots.
-    pub fn units<R: Rule>(&self, rule: &R) -> u64
-        ensures value { λ r. ⌜ r ≡ month-units (meaning (now (rule .entry))) (now (now (self .entry) .slots)) ⌝ }
-        ensures limit { λ r. ⌜ r ≤ 14880000000 ⌝ }
-    {
-        let mut sum = 0;
-        for slot in self.slots {
-            sum += u64::from(rule.units(slot));
-        }
-        sum
+// The units of the slots under any rule.
+fn units_of<R: Rule>(rule: &R, slots: &[Slot]) -> u64
+    requires few { ⌜ length (now slots) ≤ 1488 ⌝ }
+    requires within { ⌜ All Within (now slots) ⌝ }
+    ensures value { λ r. ⌜ r ≡ month-units (meaning (now (rule .entry))) (now (slots .entry)) ⌝ }
+    ensures limit { λ r. ⌜ r ≤ 14880000000 ⌝ }
+{
+    let mut sum = 0;
+    for slot in slots {
+        sum += u64::from(rule.units(slot));
     }
+    sum
+}
+
+// The slots of the month under the rules in the places of outage, market and dispatch.
+pub fn assess<R1: Rule, R2: Rule, R3: Rule>(
+    open: &OpenMonth,
+    slots: &[Slot],
+    outage: &R1,
+    market: &R2,
+    dispatch: &R3,
+) -> Result<Assessment, SlotsRefusal>
+    ensures { λ r. ⌜ Cases r
+        (λ a. Assesses (now («open» .entry)) (now (slots .entry)) (record {
+          outage = record { number = R1·Rule .numberOf; units = R1·Rule .meaning (now (outage .entry)) };
+          market = record { number = R2·Rule .numberOf; units = R2·Rule .meaning (now (market .entry)) };
+          dispatch = record { number = R3·Rule .numberOf; units = R3·Rule .meaning (now (dispatch .entry)) };
+        }) (a .numbers) (a .units))
+        (λ e. Refuses (now («open» .entry)) (now (slots .entry)) e) ⌝ }
+{
+    check_slots(open, slots)?;
+    Ok(Assessment {
+        numbers: PerRule {
+            outage: R1::own_number(),
+            market: R2::own_number(),
+            dispatch: R3::own_number(),
+        },
+        units: PerRule {
+            outage: units_of(outage, slots),
+            market: units_of(market, slots),
+            dispatch: units_of(dispatch, slots),
+        },
+    })
 }
