@@ -1,0 +1,6 @@
+pub mod Refusals
+pub mod Lines
+pub mod Calls
+pub mod History
+pub mod Standing
+pub mod Limits

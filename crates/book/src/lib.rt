@@ -1,0 +1,7 @@
+// The settlement book of one plant for one contract year.
+pub mod book;
+pub mod line;
+pub mod refusals;
+pub mod refused;
+mod sums;
+pub mod table;
