@@ -1,2 +1,4 @@
 pub mod Adding
 pub mod Kept
+pub mod Has
+pub mod Closing

@@ -11,6 +11,7 @@ use Rattle.records.specs.declared.slot.Slot.{Slot}
 use Rattle.rules.specs.declared.assessment.OpenMonth.{OpenMonth}
 use Rattle.rules.specs.declared.assessment.PerRule.{PerRule}
 use Rattle.rules.specs.Months.{RuleOf, Lawful, FitSlots, FirstUnfit, numbers-of, units-of}
+use Rattle.rules.specs.Standard.{outage-units, market-units, dispatch-units}
 use Rattle.terms.specs.declared.contract.PricedTerms.{PricedTerms}
 use Rattle.yen.specs.declared.Settlement.{Settlement}
 use Rattle.yen.specs.Yen.{settlement-of}
@@ -76,6 +77,14 @@ pub record LawfulRules (rules : PerRule RuleOf) : Type 0 where
   pub outage : Lawful (rules .outage)
   pub market : Lawful (rules .market)
   pub dispatch : Lawful (rules .dispatch)
+
+-- the three standard rules at an assessed capacity
+abbrev pub standard-rules : ℕ → PerRule RuleOf
+standard-rules assessed = record {
+  outage = record { number = 1; units = outage-units assessed };
+  market = record { number = 2; units = market-units assessed };
+  dispatch = record { number = 3; units = dispatch-units assessed };
+}
 
 -- by any three rules, and by the standard ones
 pub record Closed (a : Table) (slots : List Slot) (rules : PerRule RuleOf) (r : Result Notice CloseRefusal) (b : Table) : Type 0 where

@@ -4,3 +4,4 @@ pub mod Calls
 pub mod History
 pub mod Standing
 pub mod Limits
+pub mod Promise

@@ -1,8 +1,11 @@
 // The book and its calls.
 ghost use mathlib.Core.Path.{_≡_};
-ghost use Prim.Native.Nat.{_<_};
-ghost use Rattle.rules.specs.Standard.{outage-units, market-units, dispatch-units};
-ghost use Rattle.book.specs.Calls.{Opened, next-line, notice-of};
+ghost use Prim.Native.Nat.{_≤_, _<_};
+ghost use lib.ListN.{length};
+ghost use Rattle.std.specs.shelf.Lists.{All};
+ghost use Rattle.std.specs.Orderings.{Decides};
+ghost use Rattle.book.specs.Calls.{Opened, settled-lines, next-line, notice-of, standard-rules, Awaits, shown};
+ghost use Rattle.book.specs.Limits.{Modest};
 ghost use Rattle.book.specs.History.{Step, closing, settling, objecting, reading-line, reading-totals, HasHistory};
 use crate::line::Line;
 use crate::line::Totals;
@@ -68,12 +71,20 @@ impl Book {
         Book { table }
     }
 
+    fn settled_lines(&self) -> &[Line]
+        ensures value { λ r. ⌜ now r ≡ settled-lines (now (self .entry) .table) ⌝ }
+        ensures year { λ r. ⌜ length (now r) ≤ 12 ⌝ }
+        ensures modest { λ r. ⌜ All Modest (now r) ⌝ }
+    {
+        &self.table.lines[0..self.table.settled as usize]
+    }
+
     // The line of the first unsettled month, as it was assessed.
     fn next_line(&self, assessment: &Assessment) -> Line
         requires { ⌜ now self .table .settled < 12 ⌝ }
         ensures { λ r. ⌜ r ≡ next-line (now (self .entry) .table) (now (assessment .entry) .numbers) (now (assessment .entry) .units) ⌝ }
     {
-        let settled = &self.table.lines[0..self.table.settled as usize];
+        let settled = self.settled_lines();
         let before = Before {
             outage_units: outage_units_of(settled),
             charged: totals_of(settled).charged,
@@ -90,5 +101,139 @@ impl Book {
             charged: yen.charged,
             net: yen.net,
         }
+    }
+
+    // Closes the first unsettled month by three rules, in the places of outage, market and dispatch.
+    pub fn close_by<R1: Rule, R2: Rule, R3: Rule>(
+        &mut self,
+        slots: &[Slot],
+        outage: &R1,
+        market: &R2,
+        dispatch: &R3,
+    ) -> Result<Notice, CloseRefusal>
+        ensures { λ r. ⌜ Step (now (self .entry) .table) (closing (now (slots .entry)) (record {
+          outage = record { number = R1·Rule .numberOf; units = R1·Rule .meaning (now (outage .entry)) };
+          market = record { number = R2·Rule .numberOf; units = R2·Rule .meaning (now (market .entry)) };
+          dispatch = record { number = R3·Rule .numberOf; units = R3·Rule .meaning (now (dispatch .entry)) };
+        }) r) (now (self .exit) .table) ⌝ }
+    {
+        if self.table.out {
+            return Err(CloseRefusal::NoticeOut);
+        }
+        if self.table.settled >= 12 {
+            return Err(CloseRefusal::YearSettled);
+        }
+        let contract = self.table.terms.contract();
+        let open = OpenMonth {
+            year: contract.year,
+            month: self.table.settled + 1,
+            assessed: contract.assessed,
+        };
+        let assessment = assess(&open, slots, outage, market, dispatch)?;
+        let line = self.next_line(&assessment);
+        self.table.lines[self.table.settled as usize] = line;
+        self.table.out = true;
+        Ok(notice_of(&self.table, &line))
+    }
+
+    // Closes the first unsettled month by the standard rules.
+    pub fn close(&mut self, slots: &[Slot]) -> Result<Notice, CloseRefusal>
+        ensures { λ r. ⌜ Step (now (self .entry) .table) (closing (now (slots .entry)) (standard-rules (now (self .entry) .table .terms .contract .assessed)) r) (now (self .exit) .table) ⌝ }
+    {
+        let assessed = self.table.terms.contract().assessed;
+        self.close_by(
+            slots,
+            &OutageRule { assessed },
+            &MarketRule { assessed },
+            &DispatchRule { assessed },
+        )
+    }
+
+    // Whether the notice is the one that is out.
+    fn awaits(&self, notice: &Notice) -> bool
+        ensures { λ r. ⌜ Decides r (Awaits (now (self .entry) .table) (now (notice .entry))) ⌝ }
+    {
+        if !self.table.out {
+            return false;
+        }
+        let contract = self.table.terms.contract();
+        let line = self.table.lines[self.table.settled as usize];
+        notice.plant == contract.plant
+            && notice.year == contract.year
+            && notice.month == line.month
+            && notice.issue == line.issue
+            && notice.net == line.net
+    }
+
+    // Settles the month of the notice, and answers what is paid or claimed for it.
+    pub fn settle(&mut self, notice: Notice) -> Result<Settlement, (Notice, SettleRefusal)>
+        ensures { λ r. ⌜ Step (now (self .entry) .table) (settling notice r) (now (self .exit) .table) ⌝ }
+    {
+        if !self.awaits(&notice) {
+            return Err((notice, SettleRefusal::OtherNotice));
+        }
+        let Notice {
+            plant: _,
+            year: _,
+            month: _,
+            issue: _,
+            net,
+        } = notice;
+        self.table.settled += 1;
+        self.table.out = false;
+        self.table.issue = 1;
+        Ok(settle_net(net))
+    }
+
+    // Objects to the notice: its month can be closed again.
+    pub fn object(&mut self, notice: Notice) -> Result<(), (Notice, ObjectRefusal)>
+        ensures { λ r. ⌜ Step (now (self .entry) .table) (objecting notice r) (now (self .exit) .table) ⌝ }
+    {
+        if !self.awaits(&notice) {
+            return Err((notice, ObjectRefusal::OtherNotice));
+        }
+        if self.table.issue >= 99 {
+            return Err((notice, ObjectRefusal::LastIssue));
+        }
+        let Notice {
+            plant: _,
+            year: _,
+            month: _,
+            issue: _,
+            net: _,
+        } = notice;
+        self.table.lines[self.table.settled as usize] = Line::EMPTY;
+        self.table.out = false;
+        self.table.issue += 1;
+        Ok(())
+    }
+
+    // How many months are settled or under notice.
+    fn shown(&self) -> u8
+        ensures value { λ r. ⌜ r ≡ shown (now (self .entry) .table) ⌝ }
+        ensures year { λ r. ⌜ r ≤ 12 ⌝ }
+    {
+        if self.table.out {
+            self.table.settled + 1
+        } else {
+            self.table.settled
+        }
+    }
+
+    // The line of a month that is settled or under notice.
+    pub fn read_line(&self, month: u8) -> Result<Line, ReadLineRefusal>
+        ensures { λ r. ⌜ Step (now (self .entry) .table) (reading-line month r) (now (self .entry) .table) ⌝ }
+    {
+        if month == 0 || month > self.shown() {
+            return Err(ReadLineRefusal::NoLine);
+        }
+        Ok(self.table.lines[month as usize - 1])
+    }
+
+    // The number of the settled months, and their sums.
+    pub fn read_totals(&self) -> Totals
+        ensures { λ r. ⌜ Step (now (self .entry) .table) (reading-totals r) (now (self .entry) .table) ⌝ }
+    {
+        totals_of(self.settled_lines())
     }
 }
