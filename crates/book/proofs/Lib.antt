@@ -2,3 +2,4 @@ pub mod Adding
 pub mod Kept
 pub mod Has
 pub mod Closing
+pub mod Theorem

@@ -1,9 +1,9 @@
 -- How large the yen of a sound contract can get.
 use mathlib.Core.Bool.{Bool, true, false, cond}
 use Prim.Native.Nat.{ℕ, _+_, _-_, _*_, _/_, _≤_, _<_, min}
-use native.Mathlib.Nat.{div-le-of-le-mul, div-mul-le-self}
+use native.Mathlib.Nat.{div-le-of-le-mul, div-mul-le-self, mul-le-mul-left}
 use native.Mathlib.Omega.{arith}
-use Rattle.std.proofs.shelf.Bits.{mul-le, mul-lt}
+use Rattle.std.proofs.shelf.Bits.{le-div, mul-le, mul-lt}
 use Rattle.rules.specs.declared.assessment.PerRule.{PerRule}
 use Rattle.terms.specs.declared.figures.Contract.{Contract}
 use Rattle.terms.specs.Sound.{Sound}
@@ -32,3 +32,15 @@ module _ (c : Contract) (s : Sound c) where
 
 pub amount-within : (c : Contract) (month : ℕ) → amount-of c month ≤ c .amount
 amount-within c month = grind (arith, div-mul-le-self (c .amount) 12)
+
+-- fewer units are never charged more
+quotient-less : {x y : ℕ} (d : ℕ) → 0 < d → x ≤ y → x / d ≤ y / d
+quotient-less {x} {y} d some le = le-div (x / d) y d some (omega (arith, div-mul-le-self x d))
+
+module _ (c : Contract) (s : Sound c) where
+  pub outage-less : (before before′ units units′ : ℕ) → before ≤ before′ → units ≤ units′ → outage-penalty c before units ≤ outage-penalty c before′ units′
+  outage-less before before′ units units′ p q =
+      quotient-less (8000 * c .assessed) (omega (arith, s .assessed .0)) (mul-le-mul-left (c .amount) (omega arith))
+
+  pub shortfall-less : (units units′ : ℕ) → units ≤ units′ → shortfall-penalty c units ≤ shortfall-penalty c units′
+  shortfall-less units units′ q = quotient-less (2 * c .capacity * c .hours) (year-positive c s) (mul-le-mul-left (c .amount) q)
