@@ -4,7 +4,8 @@ use mathlib.Core.List.{List, [], _∷_, _++_, append-assoc, append-nil}
 use Prim.Native.Nat.{ℕ, _+_, _≤_, _<_}
 use native.Mathlib.Nat.{add-assoc, add-zero}
 use native.Mathlib.Omega.{arith}
-use lib.ListN.{length, length-append}
+use lib.ListN.{length, take, drop, set, length-append, length-set}
+use Rattle.std.proofs.shelf.Lists.{length-take-le, take-more-set, take-all}
 use Rattle.text.specs.Front.{Begins}
 use Rattle.text.specs.Files.{Format, texts-from, texts, Good-after, Upto, Next, NoneNext, BadNext, Stop, complete, out-of-form, out-of-limits, StopsAt, One-record}
 
@@ -44,6 +45,40 @@ module _ {X : Type 0} (f : Format X) where
         ∙ ap (λ l. l ++ more) (ap (λ (j : ℕ). texts f good ++ f .write j x) (omega arith) ∙ sym (texts-push 0 good x));
     each = good-push [] good x (u .each) (n .fit) g;
   }
+
+  -- the first i records of a list are the good ones before the place `at`
+  pub record Sofar (text : List ℕ) (xs : List X) (i at : ℕ) : Type 0 where
+    pub count : i ≤ length xs
+    pub place : at ≤ length text
+    pub upto : Upto f text (take i xs) (drop at text)
+
+  pub sofar-none : (text : List ℕ) (xs : List X) → Sofar text xs 0 0
+  sofar-none text xs = record { count = omega arith; place = omega arith; upto = upto-none text }
+
+  module _ {text : List ℕ} {xs : List X} {i at : ℕ} (s : Sofar text xs i at) where
+    long : i ≡ length (take i xs)
+    long = sym (length-take-le i xs (s .count))
+
+    -- the record that begins there is the next one
+    next-of : {x : X} {rest more : List ℕ} → Begins (f .write i) (f .Fit i) x rest more → Next f (take i xs) x rest more
+    next-of {x} {rest} {more} b = subst (λ (j : ℕ). Begins (f .write j) (f .Fit j) x rest more) long b
+
+    pub sofar-more : {x : X} {next : ℕ} → i < length xs → Begins (f .write i) (f .Fit i) x (drop at text) (drop next text) → next ≤ length text → f .Good (take i xs) x → Sofar text (set xs i x) (i + 1) next
+    sofar-more {x} {next} l b to g = record {
+      count = simp length-set (omega arith);
+      place = to;
+      upto = subst (λ good. Upto f text good (drop next text)) (sym (take-more-set xs i x l)) (upto-more (s .upto) (next-of b) g);
+    }
+
+    module _ (n : ℕ) (asks : length xs ≡ n) where
+      pub stops-complete : n ≤ i → StopsAt f n text (complete xs (drop at text))
+      stops-complete l = (subst (λ good. Upto f text good (drop at text)) (take-all i xs (omega arith)) (s .upto), asks)
+
+      pub stops-form : i < n → ((x : X) (more : List ℕ) → Begins (f .write i) (f .Fit i) x (drop at text) more → ⊥) → StopsAt f n text (out-of-form (take i xs) (drop at text))
+      stops-form l none = (s .upto, omega (arith, long), subst (λ (j : ℕ). (x : X) (more : List ℕ) → Begins (f .write j) (f .Fit j) x (drop at text) more → ⊥) long none)
+
+      pub stops-limits : {x : X} {more : List ℕ} → i < n → Begins (f .write i) (f .Fit i) x (drop at text) more → (f .Good (take i xs) x → ⊥) → StopsAt f n text (out-of-limits (take i xs) (drop at text))
+      stops-limits {x} {more} l b barred = (s .upto, omega (arith, long), record { bad = x; more = more; next = next-of b; barred = barred })
 
   -- no good record comes after these, unless there are n already
   abbrev Ends : ℕ → List X → List ℕ → Type 0

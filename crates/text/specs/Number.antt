@@ -16,3 +16,11 @@ pub record NumberFirst (most n : ℕ) (bs rest : List ℕ) : Type 0 where
   pub short : n < 10 ^ most
   pub front : bs ≡ decimal n ++ rest
   pub whole : NoDigit rest
+
+-- a number of at most so many digits
+abbrev pub Short : ℕ → ℕ → Type 0
+Short most n = n < 10 ^ most
+
+-- a number, and the byte that ends it
+abbrev pub ended : ℕ → ℕ → List ℕ
+ended b n = decimal n ++ (b ∷ [])
