@@ -2,3 +2,5 @@ pub mod Runs
 pub mod Bytes
 pub mod Ended
 pub mod Records
+pub mod Joins
+pub mod Lengths
