@@ -1,1 +1,5 @@
 pub mod Slots
+pub mod Lines
+pub mod Bodies
+pub mod Contents
+pub mod Refusals

@@ -1,2 +1,4 @@
-// The half-hour records of a plant.
+// The half-hour records of a plant, and the file that holds them.
+pub mod body;
+pub mod contents;
 pub mod slot;

@@ -33,6 +33,18 @@ pub struct Slot {
 }
 
 impl Slot {
+    // A slot of zeros, to make room for others.
+    pub const EMPTY: Slot = Slot {
+        supply: 0,
+        plan: 0,
+        offer: 0,
+        meter: 0,
+        outage: Outage::NoOutage,
+        low_reserve: false,
+        dispatched: false,
+        papers: false,
+    };
+
     // Whether each number is at most its limit.
     pub fn is_within(&self) -> bool
         ensures { λ r. ⌜ Decides r (Within (now (self .entry))) ⌝ }

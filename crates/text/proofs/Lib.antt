@@ -1,0 +1,6 @@
+pub mod Runs
+pub mod Bytes
+pub mod Ended
+pub mod Records
+pub mod Joins
+pub mod Lengths
