@@ -1,6 +1,6 @@
 -- What every history keeps of its table.
 use mathlib.Core.Path.{_≡_, refl, sym, ap, subst, _∙_}
-use mathlib.Core.Bool.{Bool, true, false}
+use mathlib.Core.Bool.{Bool, true, false, cond}
 use mathlib.Core.List.{List, [], _∷_}
 use mathlib.Core.Logic.{_≢_}
 use Prim.Native.Nat.{ℕ, zero, suc, _+_, _-_, _*_, _≤_, _<_}
@@ -29,7 +29,7 @@ use Rattle.book.specs.declared.line.Line.{Line}
 use Rattle.book.specs.declared.table.Notice.{Notice}
 use Rattle.book.specs.declared.table.Table.{Table}
 use Rattle.book.specs.Lines.{empty, line-at, before-of, line-of}
-use Rattle.book.specs.Calls.{Opened, settled-lines, next-line, LawfulRules, Closes, Settles, Objects}
+use Rattle.book.specs.Calls.{Opened, settled-lines, shown, next-line, LawfulRules, Closes, Settles, Objects}
 use Rattle.book.specs.History.{Call, closing, settling, objecting, reading-line, reading-totals, Step, Led, opened, called}
 use Rattle.book.specs.Standing.{Event, closed, settled, objected, events, last-slots, last-rules, objections, Month, pending, standing, paid, claimed, month-units-of, carried, standing-line, Stands, amounts-in}
 
@@ -178,3 +178,34 @@ at-step t h a k (reading-totals r) b s = same t (events h) a k b (s .1)
 pub kept : {t : PricedTerms} {h : List Call} {a : Table} → Led t h a → Kept t (events h) a
 kept {t} (opened {b} o) = at-start t b o
 kept {t} (called {h} {a} {b} {c} l s) = at-step t h a (kept l) c b s
+
+module _ {t : PricedTerms} {es : List Event} {a : Table} (k : Kept t es a) where
+  pub within-lines : length (standing es) ≤ length (a .lines)
+  within-lines = omega (arith, k .counted, k .year, k .twelve)
+
+  -- the months that are settled or under notice
+  pub record ShownMonths : Type 0 where
+    pub months : List Month
+    pub counted : length months ≡ shown a
+    pub year : length months ≤ 12
+    pub stand : Stands (t .contract) months (a .lines)
+    pub sound : All SoundMonth months
+
+  pub shown-months : ShownMonths
+  shown-months = go (a .out) refl
+    where
+      go : (out : Bool) → a .out ≡ out → ShownMonths
+      go true e = record {
+        months = pending es ∷ standing es;
+        counted = omega (arith, k .counted, ap {B = ℕ} (λ (b : Bool). cond b 1 0) e);
+        year = omega (arith, k .counted, k .waiting e .0);
+        stand = (k .stood, ap (line-at (a .lines)) (sym (k .counted)) ∙ k .waiting e .1);
+        sound = (k .sound-next e, k .sound);
+      }
+      go false e = record {
+        months = standing es;
+        counted = omega (arith, k .counted, ap {B = ℕ} (λ (b : Bool). cond b 1 0) e);
+        year = omega (arith, k .counted, k .year);
+        stand = k .stood;
+        sound = k .sound;
+      }

@@ -30,7 +30,7 @@ use Rattle.book.specs.Calls.{shown}
 use Rattle.book.specs.History.{Call, Led}
 use Rattle.book.specs.Standing.{Event, events, Month, pending, standing, month-units-of, carried, standing-line, Stands, amounts-in, paid, claimed}
 use Rattle.book.specs.Promise.{BetterKept, no-month, month-at, BetterKeptUpTo, OneBook, TwoBooks, NoBetterKeptYearCostsMore}
-use Rattle.book.proofs.Kept.{SoundMonth, Kept, kept, carried-is}
+use Rattle.book.proofs.Kept.{SoundMonth, Kept, kept, carried-is, within-lines, shown-months}
 
 -- ---- months by their place
 
@@ -111,45 +111,19 @@ whole-year c = omega (arith, div-mul-le-self (c .amount) 12)
 -- ---- one book
 
 module _ (t : PricedTerms) (h : List Call) (a : Table) (k : Kept t (events h) a) where
-  within : length (standing (events h)) ≤ length (a .lines)
-  within = omega (arith, k .counted, k .year, k .twelve)
-
-  -- the months that are settled or under notice
-  record ShownMonths : Type 0 where
-    months : List Month
-    counted : length months ≡ shown a
-    within-lines : length months ≤ length (a .lines)
-    stand : Stands (t .contract) months (a .lines)
-
-  shown-months : ShownMonths
-  shown-months = go (a .out) refl
-    where
-      go : (out : Bool) → a .out ≡ out → ShownMonths
-      go true e = record {
-        months = pending (events h) ∷ standing (events h);
-        counted = omega (arith, k .counted, ap {B = ℕ} (λ (b : Bool). cond b 1 0) e);
-        within-lines = omega (arith, k .counted, k .twelve, k .waiting e .0);
-        stand = (k .stood, ap (line-at (a .lines)) (sym (k .counted)) ∙ k .waiting e .1);
-      }
-      go false e = record {
-        months = standing (events h);
-        counted = omega (arith, k .counted, ap {B = ℕ} (λ (b : Bool). cond b 1 0) e);
-        within-lines = within;
-        stand = k .stood;
-      }
-
   one-book : OneBook t h a
   one-book =
-      let s = shown-months in
+      let s = shown-months k in
+      let inside : length (s .months) ≤ length (a .lines) = omega (arith, s .year, k .twelve) in
       record {
         settled-months = k .counted;
         lines-stand = k .stood;
-        never-above-year-cap = subst (λ n. charged-in (take n (a .lines)) ≤ year-cap (t .contract)) (s .counted) (year-capped (t .contract) (s .months) (a .lines) (s .within-lines) (s .stand));
-        never-above-month-cap = λ n lt. month-capped (t .contract) (s .months) (a .lines) (s .within-lines) (s .stand) n (omega (arith, s .counted));
+        never-above-year-cap = subst (λ n. charged-in (take n (a .lines)) ≤ year-cap (t .contract)) (s .counted) (year-capped (t .contract) (s .months) (a .lines) inside (s .stand));
+        never-above-month-cap = λ n lt. month-capped (t .contract) (s .months) (a .lines) inside (s .stand) n (omega (arith, s .counted));
         year-squares = λ e.
             let twelve : length (standing (events h)) ≡ 12 = sym (k .counted) ∙ e in
             let all : charged-in (a .lines) ≡ carried (t .contract) (standing (events h)) .charged =
-            ap charged-in (sym (take-all (length (standing (events h))) (a .lines) (omega (arith, k .twelve)))) ∙ ap (λ (b : Before). b .charged) (carried-is (t .contract) (standing (events h)) (a .lines) within (k .stood)) in
+            ap charged-in (sym (take-all (length (standing (events h))) (a .lines) (omega (arith, k .twelve)))) ∙ ap (λ (b : Before). b .charged) (carried-is (t .contract) (standing (events h)) (a .lines) (within-lines k) (k .stood)) in
             omega (arith, all, k .squared, ap (amounts-in (t .contract)) twelve, whole-year (t .contract));
       }
 
@@ -175,8 +149,8 @@ module _ (t : PricedTerms) (h k : List Call) (a b : Table) (first : Kept t (even
       let y = month-at ys n in
       let in-a : n < length xs = better .in-first in
       let in-b : n < length ys = better .in-second in
-      let here-a : n < length (a .lines) = omega (arith, within t h a first) in
-      let here-b : n < length (b .lines) = omega (arith, within t k b second) in
+      let here-a : n < length (a .lines) = omega (arith, within-lines first) in
+      let here-b : n < length (b .lines) = omega (arith, within-lines second) in
       let sx = sound-at xs (first .sound) n in-a in
       let sy = sound-at ys (second .sound) n in-b in
       let kept-here = better .better n (omega arith) in
@@ -184,13 +158,13 @@ module _ (t : PricedTerms) (h k : List Call) (a b : Table) (first : Kept t (even
       let market : month-units-of y .market ≤ month-units-of x .market = no-more (x .rules .market) (y .rules .market) (sx .lawful .market) (kept-here .same-market-rule) (y .slots) (x .slots) (sy .within) (sx .within) (kept-here .no-slot-worse) in
       let dispatch : month-units-of y .dispatch ≤ month-units-of x .dispatch = no-more (x .rules .dispatch) (y .rules .dispatch) (sx .lawful .dispatch) (kept-here .same-dispatch-rule) (y .slots) (x .slots) (sy .within) (sx .within) (kept-here .no-slot-worse) in
       let before = less n (record { in-first = omega arith; in-second = omega arith; better = λ i lt. better .better i (omega arith) }) in
-      let line-a = line-is c xs (a .lines) (within t h a first) (first .stood) n in-a in
-      let line-b = line-is c ys (b .lines) (within t k b second) (second .stood) n in-b in
+      let line-a = line-is c xs (a .lines) (within-lines first) (first .stood) n in-a in
+      let line-b = line-is c ys (b .lines) (within-lines second) (second .stood) n in-b in
       let o = outage-less c sound (outage-units-in (take n (b .lines))) (outage-units-in (take n (a .lines))) (month-units-of y .outage) (month-units-of x .outage) (before .units) outage in
       let m = shortfall-less c sound (month-units-of y .market) (month-units-of x .market) market in
       let d = shortfall-less c sound (month-units-of y .dispatch) (month-units-of x .dispatch) dispatch in
-      let cap-a = room c xs (a .lines) (within t h a first) (first .stood) n (omega arith) in
-      let cap-b = room c ys (b .lines) (within t k b second) (second .stood) n (omega arith) in
+      let cap-a = room c xs (a .lines) (within-lines first) (first .stood) n (omega arith) in
+      let cap-b = room c ys (b .lines) (within-lines second) (second .stood) n (omega arith) in
       record {
         units = omega (arith, units-more (a .lines) n here-a, units-more (b .lines) n here-b, ap (λ (l : Line). l .units .outage) line-a, ap (λ (l : Line). l .units .outage) line-b, before .units);
         charged = omega (arith, charged-more (a .lines) n here-a, charged-more (b .lines) n here-b, ap (λ (l : Line). l .charged) line-a, ap (λ (l : Line). l .charged) line-b, before .charged);
@@ -202,7 +176,7 @@ module _ (t : PricedTerms) (h k : List Call) (a b : Table) (first : Kept t (even
     second = one-book t k b second;
     better-kept-charged-no-more = λ n better. less n better .charged;
     better-kept-net-no-less = λ n better.
-        omega (arith, ints, less n better .charged, nets (t .contract) xs (a .lines) (within t h a first) (first .stood) n (better .in-first), nets (t .contract) ys (b .lines) (within t k b second) (second .stood) n (better .in-second));
+        omega (arith, ints, less n better .charged, nets (t .contract) xs (a .lines) (within-lines first) (first .stood) n (better .in-first), nets (t .contract) ys (b .lines) (within-lines second) (second .stood) n (better .in-second));
   }
 
 pub no-better-kept-year-costs-more : (a b : Table) → NoBetterKeptYearCostsMore a b

@@ -6,6 +6,7 @@ use Rattle.book.specs.declared.line.Line.{Line}
 use Rattle.book.specs.declared.line.Totals.{Totals}
 
 pub record Modest (l : Line) : Type 0 where
+  pub month : l .month ≤ 12
   pub outage-units : l .units .outage ≤ 14880000000
   pub amount : l .amount ≤ 2000000000000
   pub outage : l .penalties .outage ≤ 18600000000000

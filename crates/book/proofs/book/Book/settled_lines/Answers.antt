@@ -6,7 +6,7 @@ use lib.ListN.{length, take}
 use Rattle.std.specs.shelf.Lists.{All}
 use Rattle.std.proofs.shelf.Lists.{length-take}
 use Rattle.book.specs.Limits.{Modest}
-use Rattle.book.proofs.Has.{year, lines-there, modest}
+use Rattle.book.proofs.Has.{year, modest-settled}
 use Rattle.book.proofs.book.Book.settled_lines.Needs as need
 
 pub part-result-end : need.part-result-end
@@ -21,5 +21,5 @@ returns c =
     record {
       value = ap (λ k. take k ls) whole;
       year = omega (arith, length-take (n - 0) ls, year led);
-      modest = subst (λ k. All Modest (take k ls)) (sym whole) (modest led);
+      modest = subst (λ k. All Modest (take k ls)) (sym whole) (modest-settled led);
     }
