@@ -30,7 +30,7 @@ use Rattle.book.specs.declared.table.Notice.{Notice}
 use Rattle.book.specs.declared.table.Table.{Table}
 use Rattle.book.specs.Lines.{empty, line-at, before-of, line-of}
 use Rattle.book.specs.Calls.{Opened, settled-lines, shown, next-line, LawfulRules, Closes, Settles, Objects}
-use Rattle.book.specs.History.{Call, closing, settling, objecting, reading-line, reading-totals, Step, Led, opened, called}
+use Rattle.book.specs.History.{Call, closing, settling, objecting, reading-line, reading-totals, printing-line, Step, Led, opened, called}
 use Rattle.book.specs.Standing.{Event, closed, settled, objected, events, last-slots, last-rules, objections, Month, pending, standing, paid, claimed, month-units-of, carried, standing-line, Stands, amounts-in}
 
 -- a month that was closed by lawful rules on slots within their limits
@@ -174,6 +174,7 @@ at-step t h a k (objecting n (Ok u)) b s = at-object t (events h) a k n b s
 at-step t h a k (objecting n (Err e)) b s = same t (events h) a k b (s .1 .unchanged)
 at-step t h a k (reading-line month r) b s = same t (events h) a k b (s .1)
 at-step t h a k (reading-totals r) b s = same t (events h) a k b (s .1)
+at-step t h a k (printing-line month old r new) b s = same t (events h) a k b (s .1)
 
 pub kept : {t : PricedTerms} {h : List Call} {a : Table} → Led t h a → Kept t (events h) a
 kept {t} (opened {b} o) = at-start t b o

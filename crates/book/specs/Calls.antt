@@ -1,9 +1,10 @@
 -- What each call of a book answers, and the whole table after it.
 use mathlib.Core.Path.{_≡_}
 use mathlib.Core.Bool.{Bool, true, false, cond}
-use mathlib.Core.List.{List}
-use Prim.Native.Nat.{ℕ, _+_, _-_, _≤_, _<_}
-use lib.ListN.{length, set, take, replicate}
+use mathlib.Core.List.{List, _++_}
+use mathlib.Core.Logic.{_⊎_}
+use Prim.Native.Nat.{ℕ, zero, suc, _+_, _-_, _≤_, _<_}
+use lib.ListN.{length, set, take, drop, replicate}
 use Rattle.std.specs.declared.option.Option.the-variants.{Some}
 use Rattle.std.specs.declared.result.Result.{Result}
 use Rattle.std.specs.Results.{Cases}
@@ -22,7 +23,10 @@ use Rattle.book.specs.declared.refused.CloseRefusal.{CloseRefusal}
 use Rattle.book.specs.declared.refused.CloseRefusal.the-variants.{NoticeOut, YearSettled, WrongSlotCount, UnfitSlot}
 use Rattle.book.specs.declared.refused.ObjectRefusal.{ObjectRefusal}
 use Rattle.book.specs.declared.refused.ObjectRefusal.the-variants.{OtherNotice, LastIssue}
+use Rattle.book.specs.declared.refused.PrintLineRefusal.{PrintLineRefusal}
+use Rattle.book.specs.declared.refused.PrintLineRefusal.the-variants as print
 use Rattle.book.specs.declared.refused.ReadLineRefusal.{ReadLineRefusal}
+use Rattle.statement.specs.Text.{text-of}
 use Rattle.book.specs.declared.refused.SettleRefusal.{SettleRefusal}
 use Rattle.book.specs.declared.table.Notice.{Notice}
 use Rattle.book.specs.declared.table.Table.{Table}
@@ -133,3 +137,32 @@ LineRead a month r = Cases r (λ l. Shown a month × (l ≡ line-at (a .lines) (
 
 abbrev pub TotalsRead : Table → Totals → Type 0
 TotalsRead a t = t ≡ totals-of (settled-lines a)
+
+abbrev pub line-text : Line → List ℕ
+line-text l = text-of (l .month) (l .amount) (l .penalties) (l .charged) (l .net)
+
+-- the totals are the statement of month 0
+abbrev pub totals-text : Totals → List ℕ
+totals-text t = text-of 0 (t .amount) (t .penalties) (t .charged) (t .net)
+
+-- the totals can always be printed
+abbrev pub Printable : Table → ℕ → Type 0
+Printable a month = (month ≡ 0) ⊎ Shown a month
+
+abbrev pub text-at : Table → ℕ → List ℕ
+text-at a zero = totals-text (totals-of (settled-lines a))
+text-at a (suc n) = line-text (line-at (a .lines) n)
+
+-- the text stands at the start of the buffer, and the rest is as it was
+pub record Prints (a : Table) (month : ℕ) (old : List ℕ) (n : ℕ) (new : List ℕ) : Type 0 where
+  pub printable : Printable a month
+  pub room : 128 ≤ length old
+  pub answered : n ≡ length (text-at a month)
+  pub written : new ≡ text-at a month ++ drop n old
+
+abbrev pub RefusesPrint : Table → ℕ → List ℕ → PrintLineRefusal → Type 0
+RefusesPrint a month old print.NoLine = Printable a month → ⊥
+RefusesPrint a month old print.ShortBuffer = Printable a month × (length old < 128)
+
+abbrev pub LinePrinted : Table → ℕ → List ℕ → Result ℕ PrintLineRefusal → List ℕ → Type 0
+LinePrinted a month old r new = Cases r (λ n. Prints a month old n new) (λ e. RefusesPrint a month old e × (new ≡ old))

@@ -14,7 +14,7 @@ use Rattle.yen.specs.declared.Settlement.the-variants.{Payment, Claim, Neither}
 use Rattle.yen.specs.Yen.{amount-of, yen-of}
 use Rattle.book.specs.declared.line.Line.{Line}
 use Rattle.book.specs.Lines.{line-at, line-of}
-use Rattle.book.specs.History.{Call, closing, settling, objecting, reading-line, reading-totals}
+use Rattle.book.specs.History.{Call, closing, settling, objecting, reading-line, reading-totals, printing-line}
 
 -- a call that was accepted and counts
 pub data Event : Type 0 where
@@ -33,6 +33,7 @@ events (objecting n (Ok u) ∷ h) = objected ∷ events h
 events (objecting n (Err e) ∷ h) = events h
 events (reading-line month r ∷ h) = events h
 events (reading-totals t ∷ h) = events h
+events (printing-line month old r new ∷ h) = events h
 
 -- before the first close
 abbrev pub no-rule : RuleOf

@@ -3,17 +3,22 @@ ghost use mathlib.Core.Path.{_≡_};
 ghost use Prim.Native.Nat.{_≤_, _<_};
 ghost use lib.ListN.{length};
 ghost use Rattle.std.specs.shelf.Lists.{All};
+ghost use Rattle.std.specs.Options.{Cases as BySome};
 ghost use Rattle.std.specs.Orderings.{Decides};
-ghost use Rattle.book.specs.Calls.{Opened, settled-lines, next-line, notice-of, standard-rules, Awaits, shown};
+ghost use Rattle.statement.specs.Text.{statement-text};
+ghost use Rattle.book.specs.Calls.{Opened, settled-lines, next-line, notice-of, standard-rules, Awaits, shown, Printable, text-at};
 ghost use Rattle.book.specs.Limits.{Modest};
-ghost use Rattle.book.specs.History.{Step, closing, settling, objecting, reading-line, reading-totals, HasHistory};
+ghost use Rattle.book.specs.History.{Step, closing, settling, objecting, reading-line, reading-totals, printing-line, HasHistory, ClosedAndSettled};
 use crate::line::Line;
 use crate::line::Totals;
 use crate::refusals::CloseRefusalFromSlots;
 use crate::refused::CloseRefusal;
 use crate::refused::ObjectRefusal;
+use crate::refused::PrintLineRefusal;
 use crate::refused::ReadLineRefusal;
 use crate::refused::SettleRefusal;
+use crate::statements::of_line;
+use crate::statements::of_totals;
 use crate::sums::outage_units_of;
 use crate::sums::totals_of;
 use crate::table::Notice;
@@ -29,6 +34,8 @@ use rules::rule::Rule;
 use rules::standard::DispatchRuleRule;
 use rules::standard::MarketRuleRule;
 use rules::standard::OutageRuleRule;
+use statement::Statement;
+use statement::print_statement;
 use terms::contract::PricedTerms;
 use yen::Before;
 use yen::Settlement;
@@ -235,5 +242,43 @@ impl Book {
         ensures { λ r. ⌜ Step (now (self .entry) .table) (reading-totals r) (now (self .entry) .table) ⌝ }
     {
         totals_of(self.settled_lines())
+    }
+
+    // The statement of a month that is settled or under notice, or of the totals as month 0.
+    fn statement_of(&self, month: u8) -> Option<Statement>
+        ensures { λ r. ⌜ BySome r (Printable (now (self .entry) .table) month → ⊥) (λ s. Printable (now (self .entry) .table) month × (statement-text s ≡ text-at (now (self .entry) .table) month)) ⌝ }
+    {
+        if month == 0 {
+            return Some(of_totals(&totals_of(self.settled_lines())));
+        }
+        match self.read_line(month) {
+            Ok(line) => Some(of_line(&line)),
+            Err(ReadLineRefusal::NoLine) => None,
+        }
+    }
+
+    // Writes the statement line of a month, or of the totals as month 0, at the start of the buffer, and answers its
+    // length.
+    pub fn print_line(&self, month: u8, out: &mut [u8]) -> Result<usize, PrintLineRefusal>
+        ensures { λ r. ⌜ Step (now (self .entry) .table) (printing-line month (now (out .entry)) r (now (out .exit))) (now (self .entry) .table) ⌝ }
+    {
+        let Some(statement) = self.statement_of(month) else {
+            return Err(PrintLineRefusal::NoLine);
+        };
+        match print_statement(&statement, out) {
+            Some(length) => Ok(length),
+            None => Err(PrintLineRefusal::ShortBuffer),
+        }
+    }
+
+    // Closes the first unsettled month by the standard rules and settles it at once, so that no notice is left.
+    pub fn close_and_settle(&mut self, slots: &[Slot]) -> Result<Settlement, CloseRefusal>
+        ensures { λ r. ⌜ ClosedAndSettled (now (self .entry) .table) (now (slots .entry)) r (now (self .exit) .table) ⌝ }
+    {
+        let notice = self.close(slots)?;
+        match self.settle(notice) {
+            Ok(settlement) => Ok(settlement),
+            Err((_notice, _refusal)) => unreachable(),
+        }
     }
 }

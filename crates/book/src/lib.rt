@@ -3,5 +3,6 @@ pub mod book;
 pub mod line;
 pub mod refusals;
 pub mod refused;
+mod statements;
 mod sums;
 pub mod table;

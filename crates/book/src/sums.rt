@@ -55,7 +55,8 @@ fn with_line(totals: Totals, line: &Line) -> Totals
 pub(crate) fn totals_of(lines: &[Line]) -> Totals
     requires year { ⌜ length (now lines) ≤ 12 ⌝ }
     requires modest { ⌜ All Modest (now lines) ⌝ }
-    ensures { λ r. ⌜ r ≡ totals-of (now (lines .entry)) ⌝ }
+    ensures value { λ r. ⌜ r ≡ totals-of (now (lines .entry)) ⌝ }
+    ensures few { λ r. ⌜ Few 12 r ⌝ }
 {
     let mut totals = Totals {
         months: 0,

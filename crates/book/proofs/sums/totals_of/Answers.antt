@@ -23,4 +23,7 @@ loop-line-again c =
     )
 
 pub returns : need.returns
-returns c = c .loop-line .inv .0 ∙ ap totals-of (take-all _ _ (c .loop-line-test .left))
+returns c = record {
+  value = c .loop-line .inv .0 ∙ ap totals-of (take-all _ _ (c .loop-line-test .left));
+  few = few-up (c .loop-line .totals) (omega (arith, c .pre .year, c .loop-line .kept .line-index-end)) (c .loop-line .inv .1);
+}
