@@ -25,7 +25,7 @@ use Rattle.book.specs.declared.line.Line.{Line}
 use Rattle.book.specs.declared.table.Table.{Table}
 use Rattle.book.specs.Lines.{empty, line-at}
 use Rattle.book.specs.Limits.{Modest}
-use Rattle.book.specs.Calls.{Opened, settled-lines, shown}
+use Rattle.book.specs.Calls.{Opened, shown}
 use Rattle.book.specs.History.{Call, Step, Led, opened, called, HasHistory}
 use Rattle.book.specs.Standing.{events, Month, standing, pending, month-units-of, carried, standing-line, Stands}
 use Rattle.book.proofs.Kept.{SoundMonth, Kept, kept, shown-months}
@@ -104,10 +104,10 @@ module _ {a : Table} (h : HasHistory a) where
   pub shown-year : shown a ≤ 12
   shown-year = ∥∥₁-elim h le-prop (λ l. let s = shown-months (kept (l .2)) in omega (arith, s .counted, s .year))
 
-  pub modest-settled : All Modest (settled-lines a)
-  modest-settled =
-      let some : a .settled ≤ shown a = omega arith in
-      subst (All Modest) (take-take (a .settled) (shown a) (a .lines) some) (all-take Modest (a .settled) (take (shown a) (a .lines)) modest-shown)
+  pub modest-first : (n : ℕ) → n ≤ a .settled → All Modest (take n (a .lines))
+  modest-first n le =
+      let some : n ≤ shown a = omega arith in
+      subst (All Modest) (take-take n (shown a) (a .lines) some) (all-take Modest n (take (shown a) (a .lines)) modest-shown)
 
   -- of a month that is settled or under notice, counted from 1
   pub modest-at : (month : ℕ) → 1 ≤ month → month ≤ shown a → Modest (line-at (a .lines) (month - 1))

@@ -5,3 +5,4 @@ pub mod History
 pub mod Standing
 pub mod Limits
 pub mod Promise
+pub mod Comparing

@@ -1,12 +1,12 @@
 // The book and its calls.
 ghost use mathlib.Core.Path.{_≡_};
 ghost use Prim.Native.Nat.{_≤_, _<_};
-ghost use lib.ListN.{length};
+ghost use lib.ListN.{length, take};
 ghost use Rattle.std.specs.shelf.Lists.{All};
 ghost use Rattle.std.specs.Options.{Cases as BySome};
 ghost use Rattle.std.specs.Orderings.{Decides};
 ghost use Rattle.statement.specs.Text.{statement-text};
-ghost use Rattle.book.specs.Calls.{Opened, settled-lines, next-line, notice-of, standard-rules, Awaits, shown, Printable, text-at};
+ghost use Rattle.book.specs.Calls.{Opened, next-line, notice-of, standard-rules, Awaits, shown, Printable, text-at};
 ghost use Rattle.book.specs.Limits.{Modest};
 ghost use Rattle.book.specs.History.{Step, closing, settling, objecting, reading-line, reading-totals, printing-line, HasHistory, ClosedAndSettled};
 use crate::line::Line;
@@ -78,12 +78,14 @@ impl Book {
         Book { table }
     }
 
-    fn settled_lines(&self) -> &[Line]
-        ensures value { λ r. ⌜ now r ≡ settled-lines (now (self .entry) .table) ⌝ }
+    // The lines of the first months, which are settled.
+    pub(crate) fn first_lines(&self, months: u8) -> &[Line]
+        requires { ⌜ months ≤ now self .table .settled ⌝ }
+        ensures value { λ r. ⌜ now r ≡ take months (now (self .entry) .table .lines) ⌝ }
         ensures year { λ r. ⌜ length (now r) ≤ 12 ⌝ }
         ensures modest { λ r. ⌜ All Modest (now r) ⌝ }
     {
-        &self.table.lines[0..self.table.settled as usize]
+        &self.table.lines[0..months as usize]
     }
 
     // The line of the first unsettled month, as it was assessed.
@@ -91,7 +93,7 @@ impl Book {
         requires { ⌜ now self .table .settled < 12 ⌝ }
         ensures { λ r. ⌜ r ≡ next-line (now (self .entry) .table) (now (assessment .entry) .numbers) (now (assessment .entry) .units) ⌝ }
     {
-        let settled = self.settled_lines();
+        let settled = self.first_lines(self.table.settled);
         let before = Before {
             outage_units: outage_units_of(settled),
             charged: totals_of(settled).charged,
@@ -241,7 +243,7 @@ impl Book {
     pub fn read_totals(&self) -> Totals
         ensures { λ r. ⌜ Step (now (self .entry) .table) (reading-totals r) (now (self .entry) .table) ⌝ }
     {
-        totals_of(self.settled_lines())
+        totals_of(self.first_lines(self.table.settled))
     }
 
     // The statement of a month that is settled or under notice, or of the totals as month 0.
@@ -249,7 +251,7 @@ impl Book {
         ensures { λ r. ⌜ BySome r (Printable (now (self .entry) .table) month → ⊥) (λ s. Printable (now (self .entry) .table) month × (statement-text s ≡ text-at (now (self .entry) .table) month)) ⌝ }
     {
         if month == 0 {
-            return Some(of_totals(&totals_of(self.settled_lines())));
+            return Some(of_totals(&totals_of(self.first_lines(self.table.settled))));
         }
         match self.read_line(month) {
             Ok(line) => Some(of_line(&line)),

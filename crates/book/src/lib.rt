@@ -1,5 +1,7 @@
 // The settlement book of one plant for one contract year.
 pub mod book;
+pub mod compare;
+pub mod comparison;
 pub mod line;
 pub mod refusals;
 pub mod refused;

@@ -33,4 +33,4 @@ module _ (a : Table) (numbers units : PerRule â„•) (ls : List Line) (outage : â„
 pub returns : need.returns
 returns c =
     let fits : SFits w64 (c .month-yen-yen .result .net) = search needs in
-    made (c .args .self .now .table) _ _ _ _ (c .totals-of .result) (c .month-yen-yen .result) _ (c .settled-lines-settled .ensures .value) (c .outage-units-of .ensures) (c .totals-of .ensures .value) (c .month-yen-yen .ensures) (toZ-ofZ w64 (c .month-yen-yen .result .net) fits)
+    made (c .args .self .now .table) _ _ _ _ (c .totals-of .result) (c .month-yen-yen .result) _ (c .first-lines-settled .ensures .value) (c .outage-units-of .ensures) (c .totals-of .ensures .value) (c .month-yen-yen .ensures) (toZ-ofZ w64 (c .month-yen-yen .result .net) fits)
