@@ -1,1 +1,5 @@
+pub mod Ranges
+pub mod Fractions
+pub mod Bounds
+pub mod Price
 pub mod Sound
