@@ -1,0 +1,4 @@
+pub mod Runs
+pub mod Bytes
+pub mod Ended
+pub mod Records
