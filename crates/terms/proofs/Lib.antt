@@ -1,2 +1,4 @@
 pub mod Lines
 pub mod Smallness
+pub mod Facts
+pub mod Agreed

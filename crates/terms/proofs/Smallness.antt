@@ -61,3 +61,9 @@ whole f h = (div-mul-le-self (f .num) (f .den), rw (mul-comm (f .num / f .den + 
 -- and no larger than what bounds the fraction
 pub cut-le : {n d k : ℕ} (f : Fraction) → Small n d k f → cut f ≤ k
 cut-le {n} {d} {k} f s = div-le-of-le-mul (f .den) (rw (mul-comm (f .den) k) (s .worth))
+
+-- wider bounds
+pub small-wider : {n d k n′ d′ k′ : ℕ} (f : Fraction) → n ≤ n′ → d ≤ d′ → k ≤ k′ → Small n d k f → Small n′ d′ k′ f
+small-wider {n} {d} {k} {n′} {d′} {k′} f hn hd hk s =
+    let worth : k * f .den ≤ k′ * f .den = mul-le k (f .den) k′ (f .den) hk (omega arith) in
+    record { top = omega (arith, s .top); bottom = omega (arith, s .bottom); some = s .some; worth = omega (arith, s .worth) }

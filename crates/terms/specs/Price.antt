@@ -1,4 +1,5 @@
 -- The price of a contract year, and the contract that comes of it.
+use mathlib.Core.Path.{_≡_}
 use mathlib.Core.Bool.{Bool, true, false, cond, _&&_}
 use Prim.Native.Nat.{ℕ, _+_, _-_, _*_}
 use lib.Dec.{eqb, ltb}
@@ -15,7 +16,7 @@ use Rattle.terms.specs.declared.refusals.PriceRefusal.the-variants.{Range, Rat
 use Rattle.terms.specs.declared.terms.Index.{Index}
 use Rattle.terms.specs.declared.terms.Rates.{Rates}
 use Rattle.terms.specs.declared.terms.Terms.{Terms}
-use Rattle.terms.specs.Fractions.{over, one, of, times, plus, cut}
+use Rattle.terms.specs.Fractions.{over, one, of, times, plus, cut, WholePart}
 use Rattle.terms.specs.Ranges.{numbers, firstOut}
 
 -- an index moves an item where its choice is 1
@@ -82,3 +83,7 @@ contractOf t = judged t (firstOut (numbers t)) (rateFactor t)
 abbrev pub agreed : Result PricedTerms PriceRefusal → Result Contract PriceRefusal
 agreed (Ok p) = Ok (p .contract)
 agreed (Err e) = Err e
+
+-- the price is the whole part of the exact total: nothing else is cut
+abbrev pub CutOnce : Terms → Contract → Type 0
+CutOnce t c = (rate : Fraction) × ((rateFactor t ≡ Some rate) × WholePart (total t rate) (c .price))

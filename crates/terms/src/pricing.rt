@@ -3,11 +3,19 @@ ghost use mathlib.Core.Path.{_≡_};
 ghost use Prim.Native.Nat.{_≤_};
 ghost use Rattle.std.specs.Options.{Cases as BySome};
 ghost use Rattle.terms.specs.Bounds.{IndexInRange, PriceInRange, Small};
-ghost use Rattle.terms.specs.Fractions.{cut, of};
-ghost use Rattle.terms.specs.Price.{factor, itemised, rateFactor, together, total};
+ghost use Rattle.terms.specs.Fractions.{of};
+ghost use Rattle.std.specs.Results.{Cases};
+ghost use Rattle.terms.specs.Price.{agreed, contractOf, CutOnce, factor, itemised, rateFactor, together, total};
+use crate::contract::PricedTerms;
+use crate::figures::Contract;
 use crate::fraction::Fraction;
+use crate::ranges::first_out;
+use crate::refusals::PriceRefusal;
 use crate::terms::Index;
 use crate::terms::Terms;
+
+// The highest price, in yen for a kW.
+const MAX_PRICE: u32 = 1_000_000;
 
 // The rates move the return in parts of this number.
 const RATE_PARTS: i32 = 5_000;
@@ -81,16 +89,49 @@ fn together(terms: &Terms) -> Fraction
     Fraction::of(terms.capital + terms.upkeep + terms.returns, factor)
 }
 
-// The exact total, cut.
-fn cut_total(terms: &Terms, rate: Fraction) -> u32
+// The exact total.
+fn total(terms: &Terms, rate: Fraction) -> Fraction
     requires ranges { ⌜ PriceInRange (now terms) ⌝ }
     requires rate { ⌜ Small 21000 5000 5 rate ⌝ }
-    ensures value { λ r. ⌜ r ≡ cut (total (now (terms .entry)) rate) ⌝ }
+    ensures value { λ r. ⌜ r ≡ total (now (terms .entry)) rate ⌝ }
+    ensures small { λ r. ⌜ Small 6198140185993800000000 4998500149995000 140000000 r ⌝ }
 {
-    let total = if terms.method == 1 {
+    if terms.method == 1 {
         itemised(terms, rate)
     } else {
         together(terms)
+    }
+}
+
+// The terms with their price and the year's amount.
+pub fn price(terms: &Terms) -> Result<PricedTerms, PriceRefusal>
+    ensures contract { λ r. ⌜ agreed r ≡ contractOf (now (terms .entry)) ⌝ }
+    ensures cut { λ r. ⌜ Cases r (λ p. CutOnce (now (terms .entry)) (p .contract)) (λ _. Unit {0}) ⌝ }
+{
+    if let Some(line) = first_out(terms) {
+        return Err(PriceRefusal::Range(line));
+    }
+    let Some(rate) = rate_factor(terms) else {
+        return Err(PriceRefusal::RateBelowZero);
     };
-    (total.num / total.den) as u32
+    let total = total(terms, rate);
+    let price = (total.num / total.den) as u32;
+    if price > MAX_PRICE {
+        return Err(PriceRefusal::PriceTooHigh);
+    }
+    let full = price as u64 * terms.capacity as u64;
+    if terms.reduction > full {
+        return Err(PriceRefusal::ReductionTooHigh);
+    }
+    Ok(PricedTerms {
+        contract: Contract {
+            plant: terms.plant,
+            year: terms.year as u16,
+            capacity: terms.capacity,
+            assessed: terms.assessed,
+            hours: terms.hours as u16,
+            price,
+            amount: full - terms.reduction,
+        },
+    })
 }
