@@ -1,1 +1,4 @@
 pub mod Slots
+pub mod Lines
+pub mod Bodies
+pub mod Refusals

@@ -1,2 +1,3 @@
-// The half-hour records of a plant.
+// The half-hour records of a plant, and the file that holds them.
+pub mod body;
 pub mod slot;

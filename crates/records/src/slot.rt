@@ -29,3 +29,17 @@ pub struct Slot {
     // papers for the offer were shown
     pub papers: bool,
 }
+
+impl Slot {
+    // A slot of zeros, to make room for others.
+    pub const EMPTY: Slot = Slot {
+        supply: 0,
+        plan: 0,
+        offer: 0,
+        meter: 0,
+        outage: Outage::NoOutage,
+        low_reserve: false,
+        dispatched: false,
+        papers: false,
+    };
+}
