@@ -12,7 +12,7 @@ use Rattle.terms.specs.declared.terms.Index.{Index}
 use Rattle.terms.specs.declared.terms.Terms.{Terms}
 use Rattle.terms.specs.Bounds.{IndexInRange, RateInRange, PriceInRange}
 use Rattle.terms.specs.Ranges.{numbers, inRange, firstOut, within}
-use Rattle.terms.proofs.Lines.{all-in}
+use Rattle.terms.proofs.Walk.{all-in}
 
 -- a number that has no sign
 unsigned : (low high n : ℕ) (b : Bool) → (within (pos low, pos high) (pos n) && b) ≡ true → (low ≤ n) × (n ≤ high)

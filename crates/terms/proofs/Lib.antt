@@ -1,4 +1,5 @@
-pub mod Lines
+pub mod Walk
 pub mod Smallness
 pub mod Facts
 pub mod Agreed
+pub mod Lines

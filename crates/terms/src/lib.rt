@@ -4,5 +4,6 @@ pub mod figures;
 mod fraction;
 pub mod pricing;
 mod ranges;
+pub mod reading;
 pub mod refusals;
 pub mod terms;

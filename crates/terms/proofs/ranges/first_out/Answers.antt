@@ -3,7 +3,7 @@ use Prim.Native.Nat.{ℕ, _≤_, _-_}
 use native.Mathlib.Omega.{arith}
 use Rattle.std.specs.declared.option.Option.the-variants.{Some, None}
 use Rattle.terms.specs.Ranges.{firstOut}
-use Rattle.terms.proofs.Lines.{walk-on, walk-stops, walk-ends}
+use Rattle.terms.proofs.Walk.{walk-on, walk-stops, walk-ends}
 use Rattle.terms.proofs.ranges.first_out.Needs as need
 
 pub loop-i-holds : need.loop-i-holds
