@@ -3,3 +3,7 @@ pub mod Smallness
 pub mod Facts
 pub mod Agreed
 pub mod Lines
+pub mod RangeTable
+pub mod Spelled
+pub mod InRange
+pub mod Verdicts

@@ -5,6 +5,8 @@ use mathlib.Core.List.{List, [], _∷_, _++_, append-assoc}
 use Prim.Native.Nat.{ℕ, zero, suc, _<_}
 use native.Mathlib.Omega.{arith}
 use lib.IntN.{ℤ, pos, negsuc, _-ℤ_}
+use mir.Syntax.{w128}
+use mir.Val.{ofZ, toZ}
 use lib.ListN.{length, getD, drop}
 use Rattle.std.specs.Reads.{Digits, value}
 use Rattle.std.specs.Text.{In}
@@ -79,3 +81,11 @@ one-line k (negsuc m) (pos n) us rest f g e = absurd (no-minus n _ (10 ∷ rest)
 one-line k (negsuc m) (negsuc n) us rest f g e =
     let p = one-ended (suc m) (suc n) (ended 10 (suc m) ++ us) us rest (record { fit = f .0; front = refl }) (record { fit = g .0; front = ap (drop 1) e }) in
     (ap negsuc (omega (arith, p .0)), p .1)
+
+held : (k : ℕ) (z : ℤ) → InForm k z → z ≡ toZ w128 (ofZ w128 z)
+held k (pos n) f = omega (arith, ints)
+held k (negsuc n) f = omega (arith, ints, f .0)
+
+-- a number in form fits the type that holds it
+pub held-line : (k : ℕ) (z : ℤ) (bs rest : List ℕ) → Begins line-text (InForm k) z bs rest → Begins line-text (InForm k) (toZ w128 (ofZ w128 z)) bs rest
+held-line k z bs rest b = subst (λ (y : ℤ). Begins line-text (InForm k) y bs rest) (held k z (b .fit)) b

@@ -48,3 +48,12 @@ unfolding firstFrom
 walk-ends ns i h =
     let e : 22 - i ≡ 0 = omega arith in
     ap (λ n. firstFrom ns n i) e
+
+none-from : (ns : List ℤ) (n k : ℕ) → ((j : ℕ) → k ≤ j → j < k + n → inRange ns j ≡ true) → firstFrom ns n k ≡ None
+unfolding firstFrom
+none-from ns zero k each = refl
+none-from ns (suc n) k each = cond-true _ _ _ (each k (omega arith) (omega arith)) ∙ none-from ns n (k + 1) (λ j l h. each j (omega arith) (omega arith))
+
+pub none-out : (ns : List ℤ) → ((k : ℕ) → k < 22 → inRange ns k ≡ true) → firstOut ns ≡ None
+unfolding firstOut
+none-out ns each = none-from ns 22 0 (λ j l h. each j (omega arith))

@@ -1,7 +1,7 @@
 // Reads a text of terms: a number on each of 22 lines.
 ghost use mathlib.Core.Path.{_≡_};
 ghost use mathlib.Core.Bool.{true};
-ghost use Prim.Native.Nat.{_<_};
+ghost use Prim.Native.Nat.{_+_, _<_};
 ghost use lib.IntN.{pos};
 ghost use lib.ListN.{length, getD};
 ghost use Rattle.std.specs.Orderings.{Decides};
@@ -66,3 +66,111 @@ fn read_line(text: &[u8], at: usize, i: usize) -> Option<(i128, usize)>
     let (number, next) = read_unsigned(text, at)?;
     Some((number as i128, next))
 }
+
+// The number at a place that is neither a rate nor the reduction.
+fn whole(values: &[i128; COUNT], i: usize) -> u32
+    requires place { ⌜ i < 19 ⌝ }
+    requires ranges { ⌜ firstOut (now values) ≡ None ⌝ }
+    ensures { λ r. ⌜ pos r ≡ getD (now (values .entry)) i (pos 0) ⌝ }
+{
+    values[i] as u32
+}
+
+// The two figures of an index that begin at a place.
+fn index(values: &[i128; COUNT], i: usize) -> Index
+    requires place { ⌜ i < 18 ⌝ }
+    requires ranges { ⌜ firstOut (now values) ≡ None ⌝ }
+    ensures bid { λ r. ⌜ pos (r .bid) ≡ getD (now (values .entry)) i (pos 0) ⌝ }
+    ensures settled { λ r. ⌜ pos (r .settled) ≡ getD (now (values .entry)) (i + 1) (pos 0) ⌝ }
+{
+    Index {
+        bid: whole(values, i),
+        settled: whole(values, i + 1),
+    }
+}
+
+fn choices(values: &[i128; COUNT]) -> Choices
+    requires { ⌜ firstOut (now values) ≡ None ⌝ }
+    ensures capital { λ r. ⌜ pos (r .capital) ≡ getD (now (values .entry)) 9 (pos 0) ⌝ }
+    ensures upkeep { λ r. ⌜ pos (r .upkeep) ≡ getD (now (values .entry)) 10 (pos 0) ⌝ }
+    ensures returns { λ r. ⌜ pos (r .returns) ≡ getD (now (values .entry)) 11 (pos 0) ⌝ }
+    ensures rates { λ r. ⌜ pos (r .rates) ≡ getD (now (values .entry)) 12 (pos 0) ⌝ }
+{
+    Choices {
+        capital: whole(values, 9),
+        upkeep: whole(values, 10),
+        returns: whole(values, 11),
+        rates: whole(values, 12),
+    }
+}
+
+fn rates(values: &[i128; COUNT]) -> Rates
+    requires { ⌜ firstOut (now values) ≡ None ⌝ }
+    ensures bid { λ r. ⌜ r .bid ≡ getD (now (values .entry)) 19 (pos 0) ⌝ }
+    ensures settled { λ r. ⌜ r .settled ≡ getD (now (values .entry)) 20 (pos 0) ⌝ }
+{
+    Rates {
+        bid: values[RATE_BID] as i32,
+        settled: values[RATE_SETTLED] as i32,
+    }
+}
+
+fn reduction(values: &[i128; COUNT]) -> u64
+    requires { ⌜ firstOut (now values) ≡ None ⌝ }
+    ensures { λ r. ⌜ pos r ≡ getD (now (values .entry)) 21 (pos 0) ⌝ }
+{
+    values[21] as u64
+}
+
+// The terms that have these numbers.
+fn terms_of(values: &[i128; COUNT]) -> Terms
+    requires { ⌜ firstOut (now values) ≡ None ⌝ }
+    ensures { λ r. ⌜ numbers r ≡ now (values .entry) ⌝ }
+{
+    Terms {
+        plant: whole(values, 0),
+        year: whole(values, 1),
+        capacity: whole(values, 2),
+        assessed: whole(values, 3),
+        hours: whole(values, 4),
+        capital: whole(values, 5),
+        upkeep: whole(values, 6),
+        returns: whole(values, 7),
+        method: whole(values, 8),
+        choices: choices(values),
+        deflator: index(values, 13),
+        corporate: index(values, 15),
+        consumer: index(values, 17),
+        rates: rates(values),
+        reduction: reduction(values),
+    }
+}
+
+// The terms that the text writes out.
+pub fn read_terms(text: &[u8]) -> Result<Terms, TermsRefusal>
+    ensures verdict { λ r. ⌜ Verdict (now (text .entry)) r ⌝ }
+    ensures accepted { λ r. ⌜ Cases r (λ t. IsTextOf (now (text .entry)) t) (λ _. Unit {0}) ⌝ }
+{
+    let mut numbers = [0; COUNT];
+    let mut at = 0;
+    for i in 0..COUNT {
+        let Some((number, next)) = read_line(text, at, i) else {
+            return Err(TermsRefusal::Form(i + 1));
+        };
+        numbers[i] = number;
+        if !in_range(&numbers, i) {
+            return Err(TermsRefusal::Range(i + 1));
+        }
+        at = next;
+    }
+    if at < text.len() {
+        return Err(TermsRefusal::Form(COUNT + 1));
+    }
+    Ok(terms_of(&numbers))
+}
+
+// A text has one verdict, and the text of terms in range is read as these.
+pub fn one_verdict()
+    ensures one { λ _. ⌜ One-verdict ⌝ }
+    ensures back { λ _. ⌜ Reads-back ⌝ }
+{}
