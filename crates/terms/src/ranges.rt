@@ -53,7 +53,7 @@ pub fn in_range(numbers: &[i128], i: usize) -> bool
 
 impl Terms {
     // The numbers in the order of a file of terms.
-    pub fn numbers(&self) -> [i128; 22]
+    pub(crate) fn numbers(&self) -> [i128; COUNT]
         ensures { λ r. ⌜ r ≡ numbers (now (self .entry)) ⌝ }
     {
         [

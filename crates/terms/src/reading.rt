@@ -150,6 +150,8 @@ fn terms_of(values: &[i128; COUNT]) -> Terms
 pub fn read_terms(text: &[u8]) -> Result<Terms, TermsRefusal>
     ensures verdict { λ r. ⌜ Verdict (now (text .entry)) r ⌝ }
     ensures accepted { λ r. ⌜ Cases r (λ t. IsTextOf (now (text .entry)) t) (λ _. Unit {0}) ⌝ }
+    ensures one_verdict { λ _. ⌜ One-verdict ⌝ }
+    ensures reads_back { λ _. ⌜ Reads-back ⌝ }
 {
     let mut numbers = [0; COUNT];
     let mut at = 0;
@@ -168,9 +170,3 @@ pub fn read_terms(text: &[u8]) -> Result<Terms, TermsRefusal>
     }
     Ok(terms_of(&numbers))
 }
-
-// A text has one verdict, and the text of terms in range is read as these.
-pub fn one_verdict()
-    ensures one { λ _. ⌜ One-verdict ⌝ }
-    ensures back { λ _. ⌜ Reads-back ⌝ }
-{}
