@@ -2,8 +2,3 @@ pub mod Walk
 pub mod Smallness
 pub mod Facts
 pub mod Agreed
-pub mod Lines
-pub mod RangeTable
-pub mod Spelled
-pub mod InRange
-pub mod Verdicts

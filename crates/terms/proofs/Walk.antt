@@ -1,14 +1,15 @@
 -- The first line out of range, by a walk over the lines.
 use mathlib.Core.Path.{_≡_, refl, sym, ap, _∙_}
-use mathlib.Core.Bool.{true, false, cond}
+use mathlib.Core.Bool.{Bool, true, false, cond, _&&_}
 use mathlib.Core.List.{List}
 use Prim.Native.Nat.{ℕ, zero, suc, _+_, _-_, _≤_, _<_}
 use native.Mathlib.Omega.{arith}
 use lib.IntN.{ℤ}
+use lib.ListN.{length}
 use Rattle.std.specs.declared.option.Option.the-variants.{Some, None}
-use Rattle.std.proofs.shelf.Tests.{cases-bool, cases-eq, cond-true, cond-false}
+use Rattle.std.proofs.shelf.Tests.{cases-bool, cases-eq, cond-true, cond-false, and-from, lt-ltb}
 use mathlib.Core.Logic.{⊎-elim}
-use Rattle.terms.specs.Ranges.{inRange, firstFrom, firstOut}
+use Rattle.terms.specs.Ranges.{inRange, stands, firstFrom, firstOut}
 
 -- the lines from the place i on
 step : (ns : List ℤ) (i : ℕ) → i < 22 → firstFrom ns (22 - i) i ≡ cond (inRange ns i) (firstFrom ns (22 - (i + 1)) (i + 1)) (Some (i + 1))
@@ -57,3 +58,7 @@ none-from ns (suc n) k each = cond-true _ _ _ (each k (omega arith) (omega arith
 pub none-out : (ns : List ℤ) → ((k : ℕ) → k < 22 → inRange ns k ≡ true) → firstOut ns ≡ None
 unfolding firstOut
 none-out ns each = none-from ns 22 0 (λ j l h. each j (omega arith))
+
+-- what a test of a number that is there says
+pub range-told : (ns : List ℤ) (k : ℕ) (b : Bool) → k < 22 → k < length ns → b ≡ (stands ns k && inRange ns k) → b ≡ inRange ns k
+range-told ns k b few there e = e ∙ ap (λ s. s && inRange ns k) (and-from _ _ (lt-ltb k 22 few) (lt-ltb k (length ns) there))

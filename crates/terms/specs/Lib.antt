@@ -3,5 +3,4 @@ pub mod Fractions
 pub mod Bounds
 pub mod Price
 pub mod Refusals
-pub mod TermsFile
 pub mod Sound

@@ -3,7 +3,7 @@ use mathlib.Core.Path.{_≡_}
 use mathlib.Core.Bool.{Bool, true, cond, _&&_}
 use mathlib.Core.List.{List, [], _∷_}
 use Prim.Native.Nat.{ℕ, zero, suc, _+_}
-use lib.Dec.{eqb}
+use lib.Dec.{eqb, ltb}
 use lib.IntN.{ℤ, pos, negsuc, _*ℤ_}
 use lib.Signed.{leZ}
 use lib.ListN.{getD, length}
@@ -37,6 +37,10 @@ abbrev pub inRange : List ℤ → ℕ → Bool
 inRange ns k =
     within (getD ranges k (pos 0, pos 0)) (getD ns k (pos 0))
     && cond (eqb k 3) (leZ (getD ns 2 (pos 0)) (pos 10 *ℤ getD ns 3 (pos 0))) true
+
+-- there is a number at the place k, and terms have one there
+abbrev pub stands : List ℤ → ℕ → Bool
+stands ns k = ltb k 22 && ltb k (length ns)
 
 -- of the lines from the place k on, n in number, the first whose number is out of range; lines count from 1
 unfoldable pub firstFrom : List ℤ → ℕ → ℕ → Option ℕ

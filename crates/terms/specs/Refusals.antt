@@ -1,13 +1,7 @@
--- The number and the place of each refusal; the place is 0 where none is named.
+-- The number and the place of each refusal to price terms; the place is 0 where none is named.
 use Rattle.refusal.specs.declared.Refusal.{Refusal}
-use Rattle.terms.specs.declared.refusals.TermsRefusal.{TermsRefusal}
-use Rattle.terms.specs.declared.refusals.TermsRefusal.the-variants as text
 use Rattle.terms.specs.declared.refusals.PriceRefusal.{PriceRefusal}
 use Rattle.terms.specs.declared.refusals.PriceRefusal.the-variants.{Range, RateBelowZero, PriceTooHigh, ReductionTooHigh}
-
-abbrev pub termsRefusal : TermsRefusal → Refusal
-termsRefusal (text.Form line) = record { number = 1; place = line }
-termsRefusal (text.Range line) = record { number = 2; place = line }
 
 abbrev pub priceRefusal : PriceRefusal → Refusal
 priceRefusal (Range line) = record { number = 2; place = line }

@@ -3,7 +3,6 @@ pub mod contract;
 pub mod figures;
 mod fraction;
 pub mod pricing;
-mod ranges;
-pub mod reading;
+pub mod ranges;
 pub mod refusals;
 pub mod terms;

@@ -1,10 +1,10 @@
 // The ranges of the terms.
 ghost use mathlib.Core.Path.{_≡_};
-ghost use mathlib.Core.Bool.{true};
+ghost use mathlib.Core.Bool.{_&&_};
 ghost use Prim.Native.Nat.{ℕ, _<_};
 ghost use lib.ListN.{length};
 ghost use Rattle.std.specs.Orderings.{Decides};
-ghost use Rattle.terms.specs.Ranges.{numbers, inRange, firstOut};
+ghost use Rattle.terms.specs.Ranges.{firstOut, inRange, numbers, stands};
 use crate::terms::Terms;
 
 // As many as there are lines in a file of terms.
@@ -41,11 +41,14 @@ const RANGES: [(i128, i128); COUNT] = [
     (0, 2_000_000_000_000),
 ];
 
-// Whether the number at the place `i` is in its range. The assessed capacity has to be a tenth of the contract capacity at least.
+// Whether there is a number at the place `i`, and it is in its range. The assessed capacity has to be a tenth of the contract capacity
+// at least.
 pub fn in_range(numbers: &[i128], i: usize) -> bool
-    requires { ⌜ i < length (now numbers) ⌝ ∗ ⌜ i < 22 ⌝ }
-    ensures { λ r. ⌜ r ≡ inRange (now (numbers .entry)) i ⌝ }
+    ensures { λ r. ⌜ r ≡ (stands (now (numbers .entry)) i && inRange (now (numbers .entry)) i) ⌝ }
 {
+    if i >= COUNT || i >= numbers.len() {
+        return false;
+    }
     let (low, high) = RANGES[i];
     let number = numbers[i];
     low <= number && number <= high && (i != ASSESSED || numbers[CAPACITY] <= 10 * number)

@@ -12,9 +12,9 @@ use lib.Signed.{leZ}
 use Rattle.std.proofs.shelf.Lists.{getD-append-left, getD-at, getD-push, getD-take, getD-set-same, getD-set-other, length-take-le}
 use Rattle.std.proofs.shelf.Tests.{cases-eq, cond-false, ne-eqb}
 use Rattle.text.specs.Files.{Good-after}
 use Rattle.terms.specs.Ranges.{ranges, within, inRange}
-use Rattle.terms.specs.TermsFile.{file}
-use Rattle.terms.proofs.RangeTable.{in-form}
+use Rattle.terms_file.specs.TermsFile.{file}
+use Rattle.terms_file.proofs.RangeTable.{in-form}
 
 -- a range looks at its own number, and that of the assessed capacity at the contract capacity too
 same-range : (xs ys : List ℤ) (k : ℕ) → getD xs k (pos 0) ≡ getD ys k (pos 0) → (k ≡ 3 → getD xs 2 (pos 0) ≡ getD ys 2 (pos 0)) → inRange xs k ≡ inRange ys k

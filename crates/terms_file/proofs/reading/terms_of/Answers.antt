@@ -1,6 +1,6 @@
 use native.Mathlib.Omega.{arith}
-use Rattle.terms.proofs.Spelled.{numbers-are}
-use Rattle.terms.proofs.reading.terms_of.Needs as need
+use Rattle.terms_file.proofs.Spelled.{numbers-are}
+use Rattle.terms_file.proofs.reading.terms_of.Needs as need
 
 pub returns : need.returns
 returns c =

@@ -18,7 +18,7 @@ use Rattle.text.specs.Front.{Begins}
 use Rattle.text.specs.Number.{NumberFirst, Short, ended}
 use Rattle.text.proofs.Ended as numbers
 use Rattle.text.proofs.Runs.{fits}
-use Rattle.terms.specs.TermsFile.{InForm, line-text, rateAt}
+use Rattle.terms_file.specs.TermsFile.{InForm, line-text, rateAt}
 
 -- a line's end is no digit
 no-digit : In 48 57 10 → ⊥

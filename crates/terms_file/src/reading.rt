@@ -7,17 +7,17 @@ ghost use lib.ListN.{length, getD};
 ghost use Rattle.std.specs.Orderings.{Decides};
 ghost use Rattle.std.specs.Results.{Cases};
 ghost use Rattle.std.specs.declared.option.Option.the-variants.{None};
 ghost use Rattle.terms.specs.Ranges.{firstOut, inRange, numbers};
-ghost use Rattle.terms.specs.TermsFile.{InForm, IsTextOf, One-verdict, Reads-back, Verdict, line-text, rateAt};
+ghost use Rattle.terms_file.specs.TermsFile.{InForm, IsTextOf, One-verdict, Reads-back, Verdict, line-text, rateAt};
 ghost use Rattle.text.specs.Front.{Begins, Reads};
 ghost use Rattle.text.specs.Number.{Short, ended};
-use crate::ranges::COUNT;
-use crate::ranges::in_range;
 use crate::refusals::TermsRefusal;
-use crate::terms::Choices;
-use crate::terms::Index;
-use crate::terms::Rates;
-use crate::terms::Terms;
+use terms::ranges::COUNT;
+use terms::ranges::in_range;
+use terms::terms::Choices;
+use terms::terms::Index;
+use terms::terms::Rates;
+use terms::terms::Terms;
 use text::read_number;
 
 // The most digits of a number.

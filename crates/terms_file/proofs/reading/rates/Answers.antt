@@ -1,8 +1,8 @@
 use native.Mathlib.Omega.{arith}
 use Rattle.std.proofs.shelf.Signed.{ints}
-use Rattle.terms.proofs.RangeTable.{between}
+use Rattle.terms_file.proofs.RangeTable.{between}
 use Rattle.terms.proofs.Walk.{all-in}
-use Rattle.terms.proofs.reading.rates.Needs as need
+use Rattle.terms_file.proofs.reading.rates.Needs as need
 
 pub cast-result : need.cast-result
 cast-result c = omega (arith, ints, between (c .args .values .now) 19 (all-in _ (c .pre) 19 (omega arith)))

@@ -1,9 +1,9 @@
 use mathlib.Core.Path.{refl}
 use native.Mathlib.Omega.{arith}
 use Rattle.text.proofs.Bytes.{step, byte-at}
-use Rattle.terms.proofs.Lines.{number-of, ended-of, none-ended}
-use Rattle.terms.proofs.reading.read_unsigned.Needs as need
-use Rattle.terms.proofs.reading.read_unsigned.Needs.{else-end-text·by·then-end-text·else-text-end-eq10, else-end-text·by·else-end-text}
+use Rattle.terms_file.proofs.Lines.{number-of, ended-of, none-ended}
+use Rattle.terms_file.proofs.reading.read_unsigned.Needs as need
+use Rattle.terms_file.proofs.reading.read_unsigned.Needs.{else-end-text·by·then-end-text·else-text-end-eq10, else-end-text·by·else-end-text}
 
 pub returns-in-Break-number : need.returns-in-Break-number
 returns-in-Break-number c = rw (c .from-residual .ensures) (λ n rest f. c .in-Break-number .ensures tt n _ (number-of n _ rest f))

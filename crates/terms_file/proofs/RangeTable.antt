@@ -13,9 +13,9 @@ use Rattle.std.specs.declared.option.Option.the-variants.{None}
 use Rattle.std.proofs.shelf.Signed.{ints}
 use Rattle.std.proofs.shelf.Tests.{and-parts, or-cases, cases-eq, false≢true}
 use Rattle.text.specs.Number.{Short}
 use Rattle.terms.specs.Ranges.{ranges, within, inRange, firstOut}
-use Rattle.terms.specs.TermsFile.{InForm, rateAt}
+use Rattle.terms_file.specs.TermsFile.{InForm, rateAt}
 use Rattle.terms.proofs.Walk.{all-in}
 
 -- a test of each number below n
 allBelow : (ℕ → Bool) → ℕ → Bool

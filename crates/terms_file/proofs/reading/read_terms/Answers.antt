@@ -1,10 +1,10 @@
 use mathlib.Core.Path.{sym, subst}
 use native.Mathlib.Omega.{arith}
 use Rattle.std.specs.declared.result.Result.the-variants.{Ok}
-use Rattle.terms.specs.TermsFile.{Judged}
-use Rattle.terms.proofs.Lines.{held-line}
-use Rattle.terms.proofs.Verdicts.{bad-form, out-of-range, read-more, too-long, all-read, ranges-read, text-read, one-verdict, reads-back}
-use Rattle.terms.proofs.reading.read_terms.Needs as need
+use Rattle.terms_file.specs.TermsFile.{Judged}
+use Rattle.terms_file.proofs.Lines.{held-line}
+use Rattle.terms_file.proofs.Verdicts.{bad-form, out-of-range, read-more, too-long, all-read, ranges-read, text-read, one-verdict, reads-back}
+use Rattle.terms_file.proofs.reading.read_terms.Needs as need
 
 pub returns-in-rest : need.returns-in-rest
 returns-in-rest c = record { verdict = bad-form (c .loop-i .inv) (omega arith) (c .in-rest .ensures tt); accepted = tt; one-verdict = one-verdict; reads-back = reads-back }

@@ -1,6 +1,6 @@
 -- The verdict on a text of terms.
 use mathlib.Core.Path.{_≡_, refl, sym, ap, subst, _∙_}
-use mathlib.Core.Bool.{true, false}
+use mathlib.Core.Bool.{Bool, true, false, _&&_}
 use mathlib.Core.List.{List, [], _∷_, _++_, append-nil}
 use Prim.Native.Nat.{ℕ, _+_, _≤_, _<_}
 use native.Mathlib.Omega.{arith}
@@ -14,14 +14,14 @@ use Rattle.std.proofs.shelf.Tests.{false≢true}
 use Rattle.text.specs.Front.{Begins}
 use Rattle.text.specs.Files.{texts, Upto, Stop, complete, out-of-form, out-of-limits, StopsAt}
 use Rattle.text.proofs.Records as records
-use Rattle.terms.specs.declared.refusals.TermsRefusal.{TermsRefusal}
-use Rattle.terms.specs.declared.refusals.TermsRefusal.the-variants.{Form, Range}
+use Rattle.terms_file.specs.declared.refusals.TermsRefusal.{TermsRefusal}
+use Rattle.terms_file.specs.declared.refusals.TermsRefusal.the-variants.{Form, Range}
 use Rattle.terms.specs.declared.terms.Terms.{Terms}
-use Rattle.terms.specs.Ranges.{numbers, inRange, firstOut}
-use Rattle.terms.specs.TermsFile.{line-text, InForm, file, answer, Judged, read, Verdict, IsTextOf, One-verdict, Reads-back}
-use Rattle.terms.proofs.InRange.{all-good, good-all, range-put}
-use Rattle.terms.proofs.Lines.{one-line}
-use Rattle.terms.proofs.Walk.{all-in, none-out}
+use Rattle.terms.specs.Ranges.{numbers, stands, inRange, firstOut}
+use Rattle.terms_file.specs.TermsFile.{line-text, InForm, file, answer, Judged, read, Verdict, IsTextOf, One-verdict, Reads-back}
+use Rattle.terms_file.proofs.InRange.{all-good, good-all, range-put}
+use Rattle.terms_file.proofs.Lines.{one-line}
+use Rattle.terms.proofs.Walk.{all-in, none-out, range-told}
 
 -- the first i numbers are the lines before the place `at`
 pub record Sofar (text : List ℕ) (ns : List ℤ) (i at : ℕ) : Type 0 where
@@ -41,16 +41,21 @@ module _ {text : List ℕ} {ns : List ℤ} {i at : ℕ} (h : Sofar text ns i at)
 
   -- the number that comes next is put at its place, and is in range there or not
   module _ {z : ℤ} (more : ℕ) (b : Begins line-text (InForm i) z (drop at text) (drop more text)) where
-    pub out-of-range : i < 22 → false ≡ inRange (set ns i z) i → Judged text (Err (Range (i + 1)))
+    told : (t : Bool) → i < 22 → t ≡ (stands (set ns i z) i && inRange (set ns i z) i) → t ≡ inRange (take i ns ++ (z ∷ [])) (length (take i ns))
+    told t l e =
+        let long = length-set ns i z ∙ h .long in
+        range-told (set ns i z) i t l (omega (arith, long)) e ∙ range-put ns i z (omega (arith, h .long))
+
+    pub out-of-range : i < 22 → false ≡ (stands (set ns i z) i && inRange (set ns i z) i) → Judged text (Err (Range (i + 1)))
     out-of-range l out = record {
       stop = out-of-limits (take i ns) (drop at text);
-      stops = records.stops-limits file (h .lines) 22 (h .long) l b (λ in-range. false≢true (out ∙ range-put ns i z (omega (arith, h .long)) ∙ in-range));
+      stops = records.stops-limits file (h .lines) 22 (h .long) l b (λ in-range. false≢true (told false l out ∙ in-range));
       says = ap (λ k. Err (Range k)) (sym next);
     }
 
-    pub read-more : i < 22 → more ≤ length text → true ≡ inRange (set ns i z) i → Sofar text (set ns i z) (i + 1) more
+    pub read-more : i < 22 → more ≤ length text → true ≡ (stands (set ns i z) i && inRange (set ns i z) i) → Sofar text (set ns i z) (i + 1) more
     read-more l to in-range = record {
-      lines = records.sofar-more file (h .lines) (omega (arith, h .long)) b to (sym (in-range ∙ range-put ns i z (omega (arith, h .long))));
+      lines = records.sofar-more file (h .lines) (omega (arith, h .long)) b to (sym (told true l in-range));
       long = length-set ns i z ∙ h .long;
     }
 

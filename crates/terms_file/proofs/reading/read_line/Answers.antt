@@ -3,9 +3,9 @@ use native.Mathlib.Omega.{arith}
 use Rattle.std.proofs.shelf.Signed.{ints}
 use Rattle.std.proofs.shelf.Tests.{false≢true}
 use Rattle.text.proofs.Bytes.{step, byte-at}
-use Rattle.terms.proofs.Lines.{one-ended, no-line, no-line-minus, line-minus}
-use Rattle.terms.proofs.reading.read_line.Needs as need
-use Rattle.terms.proofs.reading.read_line.Needs.{else-is-rate·by·then-is-rate·else-is-minus, else-is-rate·by·else-is-rate}
+use Rattle.terms_file.proofs.Lines.{one-ended, no-line, no-line-minus, line-minus}
+use Rattle.terms_file.proofs.reading.read_line.Needs as need
+use Rattle.terms_file.proofs.reading.read_line.Needs.{else-is-rate·by·then-is-rate·else-is-minus, else-is-rate·by·else-is-rate}
 
 pub returns-in-Break-number : need.returns-in-Break-number
 returns-in-Break-number c =

@@ -12,10 +12,10 @@ use Rattle.std.specs.declared.result.Result.{Result}
 use Rattle.std.specs.declared.result.Result.the-variants.{Ok, Err}
 use Rattle.text.specs.Files.{Format, texts, Stop, complete, out-of-form, out-of-limits, StopsAt}
 use Rattle.text.specs.Number.{Short}
-use Rattle.terms.specs.declared.refusals.TermsRefusal.{TermsRefusal}
-use Rattle.terms.specs.declared.refusals.TermsRefusal.the-variants.{Form, Range}
+use Rattle.terms_file.specs.declared.refusals.TermsRefusal.{TermsRefusal}
+use Rattle.terms_file.specs.declared.refusals.TermsRefusal.the-variants.{Form, Range}
 use Rattle.terms.specs.declared.terms.Terms.{Terms}
 use Rattle.terms.specs.Ranges.{numbers, inRange, firstOut}
 
 -- a number, with a minus before it where it is below 0, and the line's end
 abbrev pub line-text : ℤ → List ℕ
