@@ -1,5 +1,4 @@
 use mathlib.Core.Path.{refl}
-use native.Mathlib.Omega.{arith}
 use Rattle.records.proofs.Entries.{sofar-none, sofar-more, bad-entry, bad-start, all-entries, one-contents, twelve-fill}
 use Rattle.records.proofs.contents.read_contents.Needs as need
 
