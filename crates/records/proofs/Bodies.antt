@@ -3,7 +3,7 @@ use mathlib.Core.Path.{_≡_, refl, sym, ap, subst, _∙_}
 use mathlib.Core.List.{List, [], _∷_}
 use Prim.Native.Nat.{ℕ, _+_, _≤_, _<_}
 use native.Mathlib.Omega.{arith}
-use lib.ListN.{length, take, drop, length-drop}
+use lib.ListN.{length, take, drop}
 use Rattle.std.specs.declared.option.Option.{Option}
 use Rattle.std.specs.declared.option.Option.the-variants.{Some, None}
 use Rattle.std.specs.declared.result.Result.{Result}
@@ -12,7 +12,7 @@ use Rattle.std.proofs.shelf.Lists.{length-take-le, drop-all, drop-more}
 use Rattle.std.proofs.shelf.Tests.{cases-eq}
 use mathlib.Core.Logic.{⊎-elim}
 use Rattle.text.specs.Front.{Begins}
-use Rattle.text.specs.Files.{Stop, complete, out-of-form, out-of-limits, StopsAt}
+use Rattle.text.specs.Files.{complete, out-of-form, out-of-limits}
 use Rattle.text.proofs.Records as records
 use Rattle.records.specs.declared.slot.Slot.{Slot}
 use Rattle.records.specs.declared.body.BodyRefusal.{BodyRefusal}

@@ -119,6 +119,9 @@ module _ (w end : ℕ) (some : 0 < w) (few : w ≤ 8) where
     | suc v ↦ λ a b c. padded-digits v n (omega arith) c
   ] some few h
 
+  pub length-column : (n : ℕ) → n < 10 ^ w → length (column w end n) ≡ w + 1
+  length-column n h = omega (arith, length-append (padded w n) (end ∷ []), ap length (same n h), length-digits w n)
+
   spread : (n : ℕ) (bs rest : List ℕ) → Begins (column w end) (Short w) n bs rest → bs ≡ digits w n ++ (end ∷ rest)
   spread n bs rest f = f .front ∙ append-assoc (padded w n) (end ∷ []) rest ∙ ap (λ l. l ++ (end ∷ rest)) (same n (f .fit))
 

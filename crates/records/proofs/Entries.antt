@@ -1,20 +1,19 @@
 -- The one entry that begins a text, and the verdict on the contents.
-use mathlib.Core.Path.{_≡_, refl, sym, ap, subst, _∙_}
-use mathlib.Core.Logic.{_⊎_, ⊎-elim}
+use mathlib.Core.Path.{_≡_, refl, sym, ap, _∙_}
 use mathlib.Core.List.{List, [], _∷_, _++_, append-assoc}
-use Prim.Native.Nat.{ℕ, _+_, _-_, _≤_, _<_}
+use Prim.Native.Nat.{ℕ, _+_, _*_, _≤_, _<_}
 use native.Mathlib.Omega.{arith}
-use lib.ListN.{length, take, drop, set, length-set}
+use lib.ListN.{length, take, drop, set, length-set, length-append}
 use Rattle.std.specs.declared.result.Result.the-variants.{Ok, Err}
 use Rattle.std.proofs.shelf.Lists.{append-cancel-left, length-take-le, take-more-set}
 use Rattle.text.specs.Front.{Begins}
 use Rattle.text.specs.Number.{Short}
-use Rattle.text.specs.Files.{complete, out-of-form, out-of-limits}
+use Rattle.text.specs.Files.{texts-from, Good-after, complete, out-of-form, out-of-limits}
 use Rattle.text.proofs.Records as records
 use Rattle.records.specs.declared.contents.Span.{Span}
 use Rattle.records.specs.declared.contents.ContentsRefusal.the-variants.{Form, Start}
-use Rattle.records.specs.Contents.{column, entry-text, InEntry, last-end, contents, contents-answer, ContentsVerdict, One-contents}
-use Rattle.records.proofs.Columns.{one-column}
+use Rattle.records.specs.Contents.{column, entry-text, InEntry, last-end, contents, contents-answer, ContentsVerdict, One-contents, Twelve-fill}
+use Rattle.records.proofs.Columns.{one-column, length-column}
 
 -- what comes after the month
 abbrev after-month : Span → List ℕ → List ℕ
@@ -80,6 +79,21 @@ one-entry k s t us rest f g e =
 pub one-contents : One-contents
 one-contents text v w a b =
     a .says ∙ ap contents-answer (records.one-stop contents one-entry 12 text (a .stop) (b .stop) (a .stops) (b .stops)) ∙ sym (b .says)
+
+entry-long : (k : ℕ) (s : Span) → k < 12 → InEntry s → length (entry-text k s) ≡ 21
+entry-long k s l f =
+    let a = length-column 2 32 (omega arith) (omega arith) (k + 1) (omega arith) in
+    let b = length-column 8 32 (omega arith) (omega arith) (s .start) (f .start) in
+    let d = length-column 8 10 (omega arith) (omega arith) (s .length) (short s f) in
+    omega (arith, a, b, d, length-append (column 2 32 (k + 1) ++ column 8 32 (s .start)) (column 8 10 (s .length)), length-append (column 2 32 (k + 1)) (column 8 32 (s .start)))
+
+texts-long : (k : ℕ) (before spans : List Span) → k + length spans ≤ 12 → Good-after contents before spans → length (texts-from contents k spans) ≡ 21 * length spans
+texts-long k before [] l g = refl
+texts-long k before (s ∷ spans) l g =
+    omega (arith, length-append (entry-text k s) (texts-from contents (k + 1) spans), entry-long k s (omega arith) (g .0), texts-long (k + 1) (before ++ (s ∷ [])) spans (omega arith) (g .2))
+
+pub twelve-fill : Twelve-fill
+twelve-fill spans e g = omega (arith, texts-long 0 [] spans (omega arith) g)
 
 -- the last body ends where the one that was read last does
 last-end-push : (before : ℕ) (spans : List Span) (s : Span) → last-end before (spans ++ (s ∷ [])) ≡ s .start + s .length

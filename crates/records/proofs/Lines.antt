@@ -2,7 +2,7 @@
 use mathlib.Core.Path.{_≡_, refl, sym, ap, _∙_}
 use mathlib.Core.Bool.{Bool, true, false, cond}
 use mathlib.Core.List.{List, [], _∷_, _++_, append-assoc}
-use Prim.Native.Nat.{ℕ, _+_, _-_, _≤_, _<_}
+use Prim.Native.Nat.{ℕ, _+_, _-_, _≤_}
 use native.Mathlib.Omega.{arith}
 use lib.Dec.{eqb}
 use lib.ListN.{length, getD, drop, length-drop, length-append}
@@ -10,7 +10,7 @@ use Rattle.std.specs.Written.{decimal}
 use Rattle.std.proofs.shelf.Decimals.{length-decimal-le}
 use Rattle.std.proofs.shelf.Lists.{getD-drop}
 use Rattle.text.specs.Front.{Begins}
-use Rattle.text.specs.Number.{NumberFirst, Short, ended}
+use Rattle.text.specs.Number.{NumberFirst, Short}
 use Rattle.text.proofs.Bytes.{step}
 use Rattle.text.proofs.Ended as ended-number
 use Rattle.records.specs.declared.slot.Slot.{Slot}

@@ -3,7 +3,7 @@ ghost use mathlib.Core.Path.{_≡_};
 ghost use Prim.Native.Nat.{_<_, _≤_};
 ghost use Rattle.text.specs.Front.{Begins, Reads};
 ghost use Rattle.text.specs.Number.{Short};
-ghost use Rattle.records.specs.Contents.{InEntry, ContentsVerdict, One-contents, column, entry-text, spans-of};
+ghost use Rattle.records.specs.Contents.{InEntry, ContentsVerdict, One-contents, Twelve-fill, column, entry-text, spans-of};
 ghost use Rattle.records.specs.Refusals.{contentsRefusal};
 use refusal::Refusal;
 
@@ -99,6 +99,7 @@ fn read_entry(text: &[u8], at: usize, place: u32) -> Option<(Span, usize)>
 pub fn read_contents(text: &[u8]) -> Result<Contents, ContentsRefusal>
     ensures verdict { λ r. ⌜ ContentsVerdict (now (text .entry)) (spans-of r) ⌝ }
     ensures one_verdict { λ _. ⌜ One-contents ⌝ }
+    ensures twelve_fill { λ _. ⌜ Twelve-fill ⌝ }
 {
     let mut spans = [Span {
         start: 0,

@@ -23,7 +23,8 @@ pub fn read_number(text: &[u8], at: usize, most: usize) -> Option<(u64, usize)>
     if end == at {
         return None;
     }
-    if text[at] == b'0' && end - at > 1 {
+    let first = text[at];
+    if first == b'0' && end - at > 1 {
         return None;
     }
     Some((n, end))

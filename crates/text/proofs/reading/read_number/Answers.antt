@@ -5,7 +5,7 @@ use lib.ListN.{drop}
 use Rattle.text.specs.Number.{NoDigit}
 use Rattle.text.proofs.Runs.{sofar-none, sofar-more, small, no-digit-at, found, none-empty, none-zero, none-long}
 use Rattle.text.proofs.reading.read_number.Needs as need
-use Rattle.text.proofs.reading.read_number.Needs.{Left-loop-end, then-loop-end-test·else-is-ascii-digit, else-loop-end-test, else-text-at-eq48·by·then-text-at-eq48·else-end-at-gt1, else-text-at-eq48·by·else-text-at-eq48}
+use Rattle.text.proofs.reading.read_number.Needs.{Left-loop-end, then-loop-end-test·else-is-ascii-digit, else-loop-end-test, else-first-eq48·by·then-first-eq48·else-end-at-gt1, else-first-eq48·by·else-first-eq48}
 
 -- no digit stands where the loop stops
 stops : (c : Left-loop-end) → NoDigit (drop (c .loop-end .end) (c .args .text .now))
@@ -39,14 +39,14 @@ returns-then-end-at-2 c =
 
 pub returns-then-end-at-gt1 : need.returns-then-end-at-gt1
 returns-then-end-at-gt1 c =
-    none-zero _ _ _ _ (c .loop-end .inv .0) (min (c .args .most) 19) (omega arith) (stops (need.at·returns-then-end-at-gt1 c .Left-loop-end)) (c .if-text-at-eq48 .taken) (c .if-end-at-gt1 .taken)
+    none-zero _ _ _ _ (c .loop-end .inv .0) (min (c .args .most) 19) (omega arith) (stops (need.at·returns-then-end-at-gt1 c .Left-loop-end)) (c .if-first-eq48 .taken) (c .if-end-at-gt1 .taken)
 
 pub returns : need.returns
 returns c = (
   found _ _ _ _ (c .loop-end .inv .0) (min (c .args .most) 19) (omega arith) (omega (arith, c .loop-end .inv .1)) (stops (need.at·returns c .Left-loop-end)) (omega (arith, c .loop-end .inv .0 .from))
-      (λ zero. elim (c .else-text-at-eq48 .came) [
-        | else-text-at-eq48·by·then-text-at-eq48·else-end-at-gt1 w ↦ w .if-end-at-gt1 .left
-        | else-text-at-eq48·by·else-text-at-eq48 w ↦ absurd (w .if-text-at-eq48 .left zero)
+      (λ zero. elim (c .else-first-eq48 .came) [
+        | else-first-eq48·by·then-first-eq48·else-end-at-gt1 w ↦ w .if-end-at-gt1 .left
+        | else-first-eq48·by·else-first-eq48 w ↦ absurd (w .if-first-eq48 .left zero)
       ]),
   omega (arith, c .loop-end .inv .0 .to, c .loop-end .inv .0 .from, c .if-end-at-2 .left),
 )
