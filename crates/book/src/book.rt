@@ -6,7 +6,7 @@ ghost use Rattle.std.specs.shelf.Lists.{All};
 ghost use Rattle.std.specs.Options.{Cases as BySome};
 ghost use Rattle.std.specs.Orderings.{Decides};
 ghost use Rattle.statement.specs.Text.{statement-text};
-ghost use Rattle.book.specs.Calls.{Opened, next-line, notice-of, standard-rules, Awaits, shown, Printable, text-at};
+ghost use Rattle.book.specs.Calls.{Opened, open-month, next-line, notice-of, standard-rules, Awaits, shown, Printable, text-at};
 ghost use Rattle.book.specs.Limits.{Modest};
 ghost use Rattle.book.specs.History.{Step, closing, settling, objecting, reading-line, reading-totals, printing-line, HasHistory, ClosedAndSettled};
 use crate::line::Line;
@@ -37,6 +37,7 @@ use rules::standard::OutageRuleRule;
 use statement::Statement;
 use statement::print_statement;
 use terms::contract::PricedTerms;
+use terms::figures::Contract;
 use yen::Before;
 use yen::Settlement;
 use yen::month_yen;
@@ -76,6 +77,25 @@ impl Book {
             issue: 1,
         };
         Book { table }
+    }
+
+    // The contract that the book settles.
+    pub fn contract(&self) -> Contract
+        ensures { λ r. ⌜ r ≡ now (self .entry) .table .terms .contract ⌝ }
+    {
+        self.table.terms.contract()
+    }
+
+    // The first unsettled month, 13 where all are settled, and what it is assessed by.
+    pub fn open_month(&self) -> OpenMonth
+        ensures { λ r. ⌜ r ≡ open-month (now (self .entry) .table) ⌝ }
+    {
+        let contract = self.contract();
+        OpenMonth {
+            year: contract.year,
+            month: self.table.settled + 1,
+            assessed: contract.assessed,
+        }
     }
 
     // The lines of the first months, which are settled.
@@ -132,12 +152,7 @@ impl Book {
         if self.table.settled >= 12 {
             return Err(CloseRefusal::YearSettled);
         }
-        let contract = self.table.terms.contract();
-        let open = OpenMonth {
-            year: contract.year,
-            month: self.table.settled + 1,
-            assessed: contract.assessed,
-        };
+        let open = self.open_month();
         let assessment = assess(&open, slots, outage, market, dispatch)?;
         let line = self.next_line(&assessment);
         self.table.lines[self.table.settled as usize] = line;
@@ -149,7 +164,7 @@ impl Book {
     pub fn close(&mut self, slots: &[Slot]) -> Result<Notice, CloseRefusal>
         ensures { λ r. ⌜ Step (now (self .entry) .table) (closing (now (slots .entry)) (standard-rules (now (self .entry) .table .terms .contract .assessed)) r) (now (self .exit) .table) ⌝ }
     {
-        let assessed = self.table.terms.contract().assessed;
+        let assessed = self.contract().assessed;
         self.close_by(
             slots,
             &OutageRule { assessed },

@@ -1,14 +1,10 @@
-use mathlib.Core.Path.{_≡_, refl, ap, subst, sym}
+use mathlib.Core.Path.{refl}
 use mathlib.Core.Bool.{true}
-use Prim.Native.Nat.{_+_}
 use Rattle.std.proofs.shelf.Results.{err-from-errBy}
 use Rattle.std.specs.declared.result.Result.the-variants.{Ok}
-use Rattle.rules.specs.declared.assessment.OpenMonth.{OpenMonth}
 use Rattle.rules.specs.declared.assessment.PerRule.{PerRule}
 use Rattle.rules.specs.Months.{RuleOf, Lawful}
-use Rattle.terms.specs.declared.figures.Contract.{Contract}
-use Rattle.book.specs.declared.table.Table.{Table}
-use Rattle.book.specs.Calls.{open-month, notice-of, with-line, LawfulRules, Closed}
+use Rattle.book.specs.Calls.{notice-of, with-line, LawfulRules, Closed}
 use Rattle.book.specs.History.{closing}
 use Rattle.book.proofs.Closing.{refused-by, closes-by}
 use Rattle.book.proofs.Has.{goes-on}
@@ -30,16 +26,13 @@ lawful g x y z = record {
   dispatch = record { numbered = g .R3·Rule·met .numbered; range = g .R3·Rule·met .range z; no-worse = g .R3·Rule·met .noWorse z };
 }
 
-month-is : (a : Table) {c : Contract} → c ≡ a .terms .contract → _≡_ {A = OpenMonth} (record { year = c .year; month = a .settled + 1; assessed = c .assessed }) (open-month a)
-month-is a e = λ i. record { year = e i .year; month = a .settled + 1; assessed = e i .assessed }
-
 pub returns-in-Break-assessment : need.returns-in-Break-assessment
 returns-in-Break-assessment g c =
     let p = err-from-errBy (c .from-residual .result) (c .from-residual .ensures .1) in
     let a = c .args .self .now .table in
     rw (p .1, p .2) (record {
       lawful = lawful g (c .args .outage .now) (c .args .market .now) (c .args .dispatch .now);
-      answer = (refused-by a (c .args .slots .now) (c .if-self .left) (c .if-self-ge12 .left) (month-is a (c .contract-contract .ensures)) _ (c .in-Break-assessment .ensures tt), refl);
+      answer = (refused-by a (c .args .slots .now) (c .if-self .left) (c .if-self-ge12 .left) (c .open-month-open .ensures) _ (c .in-Break-assessment .ensures tt), refl);
     })
 
 closed : (g : given.Over) (c : After-next-line-line g) → Closed (c .args .self .now .table) (c .args .slots .now) (rules-of g (c .args .outage .now) (c .args .market .now) (c .args .dispatch .now)) (Ok (notice-of (c .args .self .now .table) (c .next-line-line .result))) (with-line (c .args .self .now .table) (c .next-line-line .result) true (c .args .self .now .table .issue))
@@ -47,7 +40,7 @@ closed g c =
     let a = c .args .self .now .table in
     record {
       lawful = lawful g (c .args .outage .now) (c .args .market .now) (c .args .dispatch .now);
-      answer = closes-by a (c .args .slots .now) (c .if-self .left) (c .if-self-ge12 .left) (month-is a (c .contract-contract .ensures)) (c .in-Continue-assessment .ensures tt) (c .next-line-line .ensures);
+      answer = closes-by a (c .args .slots .now) (c .if-self .left) (c .if-self-ge12 .left) (c .open-month-open .ensures) (c .in-Continue-assessment .ensures tt) (c .next-line-line .ensures);
     }
 
 pub ghost-self : need.ghost-self
