@@ -7,8 +7,9 @@ use Rattle.std.specs.declared.option.Option.{Option}
 use Rattle.std.specs.declared.option.Option.the-variants.{Some, None}
 use Rattle.std.specs.declared.result.Result.{Result}
 use Rattle.std.specs.declared.result.Result.the-variants.{Ok, Err}
+use Rattle.std.specs.Results.{Cases}
 use Rattle.book.specs.declared.table.Table.{Table}
-use Rattle.book.specs.Calls.{Opened, open-month}
+use Rattle.book.specs.Calls.{Opened, open-month, Prints}
 use Rattle.book.specs.History.{ClosedAndSettled}
 use Rattle.calendar.specs.Calendar.{slotsIn}
 use Rattle.records.specs.declared.slot.Slot.{Slot}
@@ -64,3 +65,12 @@ MonthSettled a text after (Err (run.Contents e)) b = ⊥
 MonthSettled a text after (Err (run.Body month e)) b = (month ≡ open-month a .month) × BodySays a text (Err e) × (b ≡ a)
 MonthSettled a text after (Err run.BytesAfter) b = (slots : List Slot) × (BodySays a text (Ok slots) × Trails a after × (b ≡ a))
 MonthSettled a text after (Err (run.Close month e)) b = (slots : List Slot) × ((month ≡ open-month a .month) × BodySays a text (Ok slots) × (Trails a after → ⊥) × ClosedAndSettled a slots (Err e) b)
+
+-- the month is settled, and the buffer begins with its statement line
+pub record SettledAndPrinted (a : Table) (text : List ℕ) (after : Bool) (old : List ℕ) (n : ℕ) (b : Table) (new : List ℕ) : Type 0 where
+  pub settlement : Settlement
+  pub settled : MonthSettled a text after (Ok settlement) b
+  pub printed : Prints b (open-month a .month) old n new
+
+abbrev pub LineSettled : Table → List ℕ → Bool → List ℕ → Result ℕ RunRefusal → Table → List ℕ → Type 0
+LineSettled a text after old r b new = Cases r (λ n. SettledAndPrinted a text after old n b new) (λ e. MonthSettled a text after (Err e) b × (new ≡ old))
