@@ -157,6 +157,7 @@ text-at a (suc n) = line-text (line-at (a .lines) n)
 pub record Prints (a : Table) (month : ℕ) (old : List ℕ) (n : ℕ) (new : List ℕ) : Type 0 where
   pub printable : Printable a month
   pub room : 128 ≤ length old
+  pub enough : n ≤ 128
   pub answered : n ≡ length (text-at a month)
   pub written : new ≡ text-at a month ++ drop n old
 

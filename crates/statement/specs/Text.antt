@@ -30,7 +30,7 @@ statement-text s = text-of (s .month) (s .amount) (s .penalties) (s .charged) (s
 
 -- a buffer of 128 bytes or more begins with the text after the call, and the rest is as it was; a shorter one is left alone
 abbrev pub Printed : List ℕ → List ℕ → Option ℕ → List ℕ → Type 0
-Printed text old (Some n) new = (128 ≤ length old) × (n ≡ length text) × (new ≡ text ++ drop n old)
+Printed text old (Some n) new = (128 ≤ length old) × (n ≤ 128) × (n ≡ length text) × (new ≡ text ++ drop n old)
 Printed text old None new = (length old < 128) × (new ≡ old)
 
 -- the bytes were put at a place and end at another, or the buffer has not the room

@@ -8,4 +8,4 @@ pub unreachable-requires : need.unreachable-requires
 unreachable-requires c κs = omega (arith, c .in-None .ensures tt, c .if-out-lt128 .left, text-short (c .args .statement .now))
 
 pub returns : need.returns
-returns c = let w = whole (c .in-Some .ensures tt .1) in (c .if-out-lt128 .left, w .0, w .1)
+returns c = let w = whole (c .in-Some .ensures tt .1) in (c .if-out-lt128 .left, omega (arith, w .0, text-short (c .args .statement .now)), w .0, w .1)
