@@ -147,7 +147,7 @@ module _ (t : PricedTerms) (es : List Event) (a : Table) (k : Kept t es a) where
   at-settle n r b s =
       let wait = k .waiting (s .awaits .is-out) in
       let net : worth r ≡ standing-line (t .contract) (pending es) (standing es) .net =
-      ap worth (s .answered) ∙ worth-settlement (n .net) ∙ ap (λ (m : Notice). m .net) (s .awaits .same) ∙ ap (λ (l : Line). l .net) (wait .1) in
+      ap worth (s .answered) ∙ worth-settlement (n .numbers .net) ∙ ap (λ (m : Notice). m .numbers .net) (s .awaits .same) ∙ ap (λ (l : Line). l .net) (wait .1) in
       subst (Kept t (settled r ∷ es)) (sym (s .left)) (record {
         same-terms = k .same-terms;
         counted = omega (arith, k .counted);

@@ -49,7 +49,9 @@ next-line a numbers units = line-of (a .terms .contract) (a .settled) (a .issue)
 
 -- the notice of a line: plant, year, month, issue and net
 abbrev pub notice-of : Table → Line → Notice
-notice-of a l = record { plant = a .terms .contract .plant; year = a .terms .contract .year; month = l .month; issue = l .issue; net = l .net }
+notice-of a l = record {
+  numbers = record { plant = a .terms .contract .plant; year = a .terms .contract .year; month = l .month; issue = l .issue; net = l .net };
+}
 
 -- the notice of the first unsettled month
 abbrev pub awaited : Table → Notice
@@ -102,7 +104,7 @@ pub record Awaits (a : Table) (n : Notice) : Type 0 where
 
 pub record Settles (a : Table) (n : Notice) (s : Settlement) (b : Table) : Type 0 where
   pub awaits : Awaits a n
-  pub answered : s ≡ settlement-of (n .net)
+  pub answered : s ≡ settlement-of (n .numbers .net)
   pub left : b ≡ record { terms = a .terms; lines = a .lines; settled = a .settled + 1; out = false; issue = 1 }
 
 -- the notice is handed back, and nothing has changed

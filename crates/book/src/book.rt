@@ -22,6 +22,8 @@ use crate::statements::of_totals;
 use crate::sums::outage_units_of;
 use crate::sums::totals_of;
 use crate::table::Notice;
+use crate::table::NoticeNumbers;
+use crate::table::NoticeNumbersPartialEq;
 use crate::table::Table;
 use records::slot::Slot;
 use rules::assessed::DispatchRule;
@@ -50,12 +52,12 @@ pub struct Book {
     ghost led: { HasHistory table },
 }
 
-// The notice of a line.
-fn notice_of(table: &Table, line: &Line) -> Notice
-    ensures { λ r. ⌜ r ≡ notice-of (now (table .entry)) (now (line .entry)) ⌝ }
+// What the notice of a line says.
+fn numbers_of(table: &Table, line: &Line) -> NoticeNumbers
+    ensures { λ r. ⌜ r ≡ notice-of (now (table .entry)) (now (line .entry)) .numbers ⌝ }
 {
     let contract = table.terms.contract();
-    Notice {
+    NoticeNumbers {
         plant: contract.plant,
         year: contract.year,
         month: line.month,
@@ -157,7 +159,9 @@ impl Book {
         let line = self.next_line(&assessment);
         self.table.lines[self.table.settled as usize] = line;
         self.table.out = true;
-        Ok(notice_of(&self.table, &line))
+        Ok(Notice {
+            numbers: numbers_of(&self.table, &line),
+        })
     }
 
     // Closes the first unsettled month by the standard rules.
@@ -180,13 +184,8 @@ impl Book {
         if !self.table.out {
             return false;
         }
-        let contract = self.table.terms.contract();
         let line = self.table.lines[self.table.settled as usize];
-        notice.plant == contract.plant
-            && notice.year == contract.year
-            && notice.month == line.month
-            && notice.issue == line.issue
-            && notice.net == line.net
+        notice.numbers == numbers_of(&self.table, &line)
     }
 
     // Settles the month of the notice, and answers what is paid or claimed for it.
@@ -196,17 +195,11 @@ impl Book {
         if !self.awaits(&notice) {
             return Err((notice, SettleRefusal::OtherNotice));
         }
-        let Notice {
-            plant: _,
-            year: _,
-            month: _,
-            issue: _,
-            net,
-        } = notice;
+        let Notice { numbers } = notice;
         self.table.settled += 1;
         self.table.out = false;
         self.table.issue = 1;
-        Ok(settle_net(net))
+        Ok(settle_net(numbers.net))
     }
 
     // Objects to the notice: its month can be closed again.
@@ -219,13 +212,7 @@ impl Book {
         if self.table.issue >= 99 {
             return Err((notice, ObjectRefusal::LastIssue));
         }
-        let Notice {
-            plant: _,
-            year: _,
-            month: _,
-            issue: _,
-            net: _,
-        } = notice;
+        let Notice { numbers: _ } = notice;
         self.table.lines[self.table.settled as usize] = Line::EMPTY;
         self.table.out = false;
         self.table.issue += 1;

@@ -1,4 +1,5 @@
 // The plain data of a book, which the contracts speak of.
+ghost use mathlib.Core.Path.{_≡_};
 use crate::line::Line;
 use terms::contract::PricedTerms;
 
@@ -15,11 +16,25 @@ pub struct Table {
     pub(crate) issue: u8,
 }
 
+// What a notice says.
+#[derive(Clone, Copy, Debug, PartialEq, Eq)]
+pub struct NoticeNumbers {
+    pub plant: u32,
+    pub year: u16,
+    pub month: u8,
+    pub issue: u8,
+    pub net: i64,
+}
+
 // A notice that was given out. It is neither `Drop` nor `Copy`: it has to be settled or objected to.
 pub struct Notice {
-    pub(crate) plant: u32,
-    pub(crate) year: u16,
-    pub(crate) month: u8,
-    pub(crate) issue: u8,
-    pub(crate) net: i64,
+    pub(crate) numbers: NoticeNumbers,
+}
+
+impl Notice {
+    pub fn numbers(&self) -> NoticeNumbers
+        ensures { λ r. ⌜ r ≡ now (self .entry) .numbers ⌝ }
+    {
+        self.numbers
+    }
 }

@@ -47,4 +47,4 @@ pub ghost-self : need.ghost-self
 ghost-self g c = (goes-on (closing _ _ _) (c .args .self .now .led) (closed g (need.at·ghost-self g c .After-next-line-line)), tt)
 
 pub returns : need.returns
-returns g c = rw (c .notice-of .ensures) (closed g (need.at·returns g c .After-next-line-line))
+returns g c = rw (c .numbers-of .ensures) (closed g (need.at·returns g c .After-next-line-line))

@@ -12,4 +12,4 @@ add-self c = omega (arith, month-out (c .args .self .now .led) (c .if-not-awaits
 pub ghost-self : need.ghost-self
 ghost-self c =
     let n = c .args .notice in
-    (goes-on (settling n (Ok (settlement-of (n .net)))) (c .args .self .now .led) (record { awaits = c .if-not-awaits .ensures tt .0 refl; answered = refl; left = refl }), tt)
+    (goes-on (settling n (Ok (settlement-of (n .numbers .net)))) (c .args .self .now .led) (record { awaits = c .if-not-awaits .ensures tt .0 refl; answered = refl; left = refl }), tt)
