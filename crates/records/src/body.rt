@@ -49,24 +49,13 @@ impl BodyRefusal {
     pub fn refusal(&self) -> Refusal
         ensures { λ r. ⌜ r ≡ bodyRefusal (now (self .entry)) ⌝ }
     {
-        match *self {
-            BodyRefusal::WrongSlotCount => Refusal {
-                number: 8,
-                place: 0,
-            },
-            BodyRefusal::Form(line) => Refusal {
-                number: 9,
-                place: line,
-            },
-            BodyRefusal::Limit(line) => Refusal {
-                number: 10,
-                place: line,
-            },
-            BodyRefusal::LineCount => Refusal {
-                number: 11,
-                place: 0,
-            },
-        }
+        let (number, place) = match *self {
+            BodyRefusal::WrongSlotCount => (8, 0),
+            BodyRefusal::Form(line) => (9, line),
+            BodyRefusal::Limit(line) => (10, line),
+            BodyRefusal::LineCount => (11, 0),
+        };
+        Refusal { number, place }
     }
 }
 
