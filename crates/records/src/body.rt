@@ -8,7 +8,7 @@ ghost use Rattle.calendar.specs.Calendar.{slotsIn};
 ghost use Rattle.text.specs.Front.{Begins, Reads};
 ghost use Rattle.text.specs.Number.{Short};
 ghost use Rattle.records.specs.Slots.{Within};
-ghost use Rattle.records.specs.Lines.{InForm, ReadsLetter, outage-letter, flag-letter, field, slot-text};
+ghost use Rattle.records.specs.Lines.{InForm, ReadsLetter, WordFirst, outage-letter, flag-letter, field, slot-text};
 ghost use Rattle.records.specs.Bodies.{Judged, Verdict, One-verdict, Short-lines, outcome};
 ghost use Rattle.records.specs.Refusals.{bodyRefusal};
 use crate::slot::Outage;
@@ -95,15 +95,11 @@ fn read_field(text: &[u8], at: usize) -> Option<(u32, usize)>
     }
 }
 
-// The line that begins at `at`, and where the next one begins.
-fn read_line(text: &[u8], at: usize) -> Option<(Slot, usize)>
-    ensures { λ r. ⌜ Reads (Begins slot-text InForm) (now (text .entry)) at r ⌝ }
+// The four letters at `at`, with the line's end after them.
+fn read_word(text: &[u8], at: usize) -> Option<((Outage, bool, bool, bool), usize)>
+    ensures { λ r. ⌜ Reads WordFirst (now (text .entry)) at r ⌝ }
 {
-    let (supply, at) = read_field(text, at)?;
-    let (plan, at) = read_field(text, at)?;
-    let (offer, at) = read_field(text, at)?;
-    let (meter, at) = read_field(text, at)?;
-    if text.len() - at < WORD_BYTES {
+    if text.len().saturating_sub(at) < WORD_BYTES {
         return None;
     }
     let outage = read_outage(text[at])?;
@@ -113,6 +109,18 @@ fn read_line(text: &[u8], at: usize) -> Option<(Slot, usize)>
     if text[at + 4] != b'\n' {
         return None;
     }
+    Some(((outage, low_reserve, dispatched, papers), at + WORD_BYTES))
+}
+
+// The line that begins at `at`, and where the next one begins.
+fn read_line(text: &[u8], at: usize) -> Option<(Slot, usize)>
+    ensures { λ r. ⌜ Reads (Begins slot-text InForm) (now (text .entry)) at r ⌝ }
+{
+    let (supply, at) = read_field(text, at)?;
+    let (plan, at) = read_field(text, at)?;
+    let (offer, at) = read_field(text, at)?;
+    let (meter, at) = read_field(text, at)?;
+    let ((outage, low_reserve, dispatched, papers), at) = read_word(text, at)?;
     let slot = Slot {
         supply,
         plan,
@@ -123,7 +131,7 @@ fn read_line(text: &[u8], at: usize) -> Option<(Slot, usize)>
         dispatched,
         papers,
     };
-    Some((slot, at + WORD_BYTES))
+    Some((slot, at))
 }
 
 fn is_within(s: &Slot) -> bool
