@@ -9,7 +9,7 @@ ghost use Rattle.text.specs.Front.{Begins, Reads};
 ghost use Rattle.text.specs.Number.{Short};
 ghost use Rattle.records.specs.Slots.{Within};
 ghost use Rattle.records.specs.Lines.{InForm, ReadsLetter, WordFirst, outage-letter, flag-letter, field, slot-text};
-ghost use Rattle.records.specs.Bodies.{Judged, Verdict, One-verdict, Short-lines, outcome};
+ghost use Rattle.records.specs.Bodies.{Judged, Verdict, One-verdict, Reads-back, Short-lines, outcome};
 ghost use Rattle.records.specs.Refusals.{bodyRefusal};
 use crate::slot::Outage;
 use crate::slot::Slot;
@@ -173,6 +173,7 @@ pub fn read_body(year: u16, month: u8, text: &[u8], slots: &mut [Slot]) -> Resul
     ensures verdict { λ r. ⌜ Verdict (slotsIn year month) (length (now (slots .entry))) (now (text .entry)) (outcome r (now (slots .exit))) ⌝ }
     ensures unchanged { λ r. ⌜ (isErr r ≡ true → now (slots .exit) ≡ now (slots .entry)) ⌝ }
     ensures one_verdict { λ _. ⌜ One-verdict ⌝ }
+    ensures reads_back { λ _. ⌜ Reads-back ⌝ }
     ensures short_lines { λ _. ⌜ Short-lines ⌝ }
 {
     let Some(count) = slots_in(year, month) else {
