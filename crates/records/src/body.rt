@@ -2,12 +2,10 @@
 ghost use mathlib.Core.Path.{_≡_};
 ghost use mathlib.Core.Bool.{true};
 ghost use lib.ListN.{length};
-ghost use Rattle.std.specs.Orderings.{Decides};
 ghost use Rattle.std.specs.Results.{isErr};
 ghost use Rattle.calendar.specs.Calendar.{slotsIn};
 ghost use Rattle.text.specs.Front.{Begins, Reads};
 ghost use Rattle.text.specs.Number.{Short};
-ghost use Rattle.records.specs.Slots.{Within};
 ghost use Rattle.records.specs.Lines.{InForm, ReadsLetter, WordFirst, outage-letter, flag-letter, field, slot-text};
 ghost use Rattle.records.specs.Bodies.{Judged, Verdict, One-verdict, Reads-back, Short-lines, outcome};
 ghost use Rattle.records.specs.Refusals.{bodyRefusal};
@@ -22,12 +20,6 @@ const MOST_DIGITS: usize = 7;
 
 // The letters of a line and its end.
 const WORD_BYTES: usize = 5;
-
-// The most kW of a slot.
-const MOST_POWER: u32 = 2_000_000;
-
-// The most kWh of a slot.
-const MOST_ENERGY: u32 = 1_000_000;
 
 // The slots of a month of 31 days.
 const MOST_SLOTS: usize = 1488;
@@ -134,15 +126,6 @@ fn read_line(text: &[u8], at: usize) -> Option<(Slot, usize)>
     Some((slot, at))
 }
 
-fn is_within(s: &Slot) -> bool
-    ensures { λ r. ⌜ Decides r (Within (now (s .entry))) ⌝ }
-{
-    s.supply <= MOST_POWER
-        && s.plan <= MOST_POWER
-        && s.offer <= MOST_POWER
-        && s.meter <= MOST_ENERGY
-}
-
 // Reads as many lines as there are slots. After a refusal some slots may be new.
 fn read_lines(text: &[u8], slots: &mut [Slot]) -> Result<(), BodyRefusal>
     ensures { λ r. ⌜ Judged (length (now (slots .entry))) (now (text .entry)) (outcome r (now (slots .exit))) ⌝ }
@@ -155,7 +138,7 @@ fn read_lines(text: &[u8], slots: &mut [Slot]) -> Result<(), BodyRefusal>
         let Some((slot, next)) = read_line(text, at) else {
             return Err(BodyRefusal::Form(i + 1));
         };
-        if !is_within(&slot) {
+        if !slot.is_within() {
             return Err(BodyRefusal::Limit(i + 1));
         }
         slots[i] = slot;

@@ -1,4 +1,12 @@
 // One half hour of a plant.
+ghost use Rattle.std.specs.Orderings.{Decides};
+ghost use Rattle.records.specs.Slots.{Within};
+
+// The most kW of a slot.
+const MOST_POWER: u32 = 2_000_000;
+
+// The most kWh of a slot.
+const MOST_ENERGY: u32 = 1_000_000;
 
 // What the outage plan says of the half hour.
 #[derive(Clone, Copy, Debug, PartialEq, Eq)]
@@ -42,4 +50,14 @@ impl Slot {
         dispatched: false,
         papers: false,
     };
+
+    // Whether each number is at most its limit.
+    pub fn is_within(&self) -> bool
+        ensures { λ r. ⌜ Decides r (Within (now (self .entry))) ⌝ }
+    {
+        self.supply <= MOST_POWER
+            && self.plan <= MOST_POWER
+            && self.offer <= MOST_POWER
+            && self.meter <= MOST_ENERGY
+    }
 }
