@@ -1,1 +1,6 @@
+pub mod Ranges
+pub mod Fractions
+pub mod Bounds
+pub mod Price
+pub mod Refusals
 pub mod Sound

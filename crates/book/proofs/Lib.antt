@@ -1,0 +1,5 @@
+pub mod Adding
+pub mod Kept
+pub mod Has
+pub mod Closing
+pub mod Theorem

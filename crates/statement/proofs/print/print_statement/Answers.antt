@@ -1,0 +1,11 @@
+use native.Mathlib.Omega.{arith}
+use borrow.Author.Needs.{needs}
+use Rattle.text.proofs.Joins.{whole}
+use Rattle.statement.proofs.Short.{text-short}
+use Rattle.statement.proofs.print.print_statement.Needs as need
+
+pub unreachable-requires : need.unreachable-requires
+unreachable-requires c κs = omega (arith, c .in-None .ensures tt, c .if-out-lt128 .left, text-short (c .args .statement .now))
+
+pub returns : need.returns
+returns c = let w = whole (c .in-Some .ensures tt .1) in (c .if-out-lt128 .left, w .0, w .1)

@@ -1,0 +1,5 @@
+pub mod Lines
+pub mod RangeTable
+pub mod Spelled
+pub mod InRange
+pub mod Verdicts

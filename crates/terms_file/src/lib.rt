@@ -1,0 +1,3 @@
+// The text of terms, as a file holds it.
+pub mod reading;
+pub mod refusals;
