@@ -1,6 +1,6 @@
 -- The verdict on a body.
 use mathlib.Core.Path.{_≡_, refl, sym, ap, subst, _∙_}
-use mathlib.Core.List.{List, [], _∷_}
+use mathlib.Core.List.{List, [], _∷_, _++_, append-nil}
 use Prim.Native.Nat.{ℕ, _+_, _≤_, _<_}
 use native.Mathlib.Omega.{arith}
 use lib.ListN.{length, take, drop}
@@ -11,15 +11,16 @@ use Rattle.std.specs.declared.result.Result.the-variants.{Ok, Err}
 use Rattle.std.proofs.shelf.Lists.{length-take-le, drop-all, drop-more}
 use Rattle.std.proofs.shelf.Tests.{cases-eq}
 use mathlib.Core.Logic.{⊎-elim}
+use Rattle.std.specs.shelf.Lists.{All}
 use Rattle.text.specs.Front.{Begins}
-use Rattle.text.specs.Files.{complete, out-of-form, out-of-limits}
+use Rattle.text.specs.Files.{Good-after, complete, out-of-form, out-of-limits}
 use Rattle.text.proofs.Records as records
 use Rattle.records.specs.declared.slot.Slot.{Slot}
 use Rattle.records.specs.declared.body.BodyRefusal.{BodyRefusal}
 use Rattle.records.specs.declared.body.BodyRefusal.the-variants.{WrongSlotCount, Form, Limit, LineCount}
 use Rattle.records.specs.Slots.{Within}
 use Rattle.records.specs.Lines.{InForm, slot-text}
-use Rattle.records.specs.Bodies.{body, answer, Judged, Verdict, One-verdict}
+use Rattle.records.specs.Bodies.{body, body-text, answer, Judged, Verdict, One-verdict, Reads-back}
 use Rattle.records.proofs.Lines.{one-line, no-empty-line}
 
 -- the first i slots are the lines before the place `at`
@@ -83,6 +84,20 @@ pub one-verdict : One-verdict
 one-verdict None room text v w a b = a ∙ sym b
 one-verdict (Some n) room text v w a b =
     ⊎-elim (λ e. one-judged n text v w (a .0 e) (b .0 e)) (λ ne. a .1 ne ∙ sym (b .1 ne)) (cases-eq room n)
+
+in-form : (s : Slot) → Within s → InForm s
+in-form s w = record { supply = omega (arith, w .supply); plan = omega (arith, w .plan); offer = omega (arith, w .offer); meter = omega (arith, w .meter) }
+
+all-good : (before slots : List Slot) → All Within slots → Good-after body before slots
+all-good before [] h = tt
+all-good before (s ∷ slots) h = (in-form s (h .0), h .0, all-good (before ++ (s ∷ [])) slots (h .1))
+
+pub reads-back : Reads-back
+reads-back slots h = record {
+  stop = complete slots [];
+  stops = (record { front = sym (append-nil (body-text slots)); each = all-good [] slots h }, refl);
+  says = refl;
+}
 
 module _ (room : ℕ) (text : List ℕ) {count : Option ℕ} where
   pub no-month : None ≡ count → Verdict count room text (Err WrongSlotCount)

@@ -1,23 +1,18 @@
 -- The one line that begins a text.
 use mathlib.Core.Path.{_≡_, refl, sym, ap, _∙_}
-use mathlib.Core.Bool.{Bool, true, false, cond}
 use mathlib.Core.List.{List, [], _∷_, _++_, append-assoc}
-use Prim.Native.Nat.{ℕ, _+_, _-_, _≤_}
+use Prim.Native.Nat.{ℕ, _≤_}
 use native.Mathlib.Omega.{arith}
-use lib.Dec.{eqb}
-use lib.ListN.{length, getD, drop, length-drop, length-append}
+use lib.ListN.{length, length-append}
 use Rattle.std.specs.Written.{decimal}
 use Rattle.std.proofs.shelf.Decimals.{length-decimal-le}
-use Rattle.std.proofs.shelf.Lists.{getD-drop}
 use Rattle.text.specs.Front.{Begins}
 use Rattle.text.specs.Number.{NumberFirst, Short}
-use Rattle.text.proofs.Bytes.{step}
 use Rattle.text.proofs.Ended as ended-number
 use Rattle.records.specs.declared.slot.Slot.{Slot}
-use Rattle.records.specs.declared.slot.Outage.{Outage}
-use Rattle.records.specs.declared.slot.Outage.the-variants.{NoOutage, PlannedStop, UnplannedStop, PlannedSuppression, UnplannedSuppression}
-use Rattle.records.specs.Lines.{InForm, outage-letter, flag-letter, field, word, slot-text}
+use Rattle.records.specs.Lines.{InForm, letters-of, field, word, slot-text}
 use Rattle.records.specs.Bodies.{Short-lines}
+use Rattle.records.proofs.Words.{one-word}
 
 -- a field is a number that a blank ends
 pub number-of : (n : ℕ) (bs rest : List ℕ) → Begins field (Short 7) n bs rest → NumberFirst 7 n bs (32 ∷ rest)
@@ -33,8 +28,11 @@ pub one-field : (m n : ℕ) (bs us rest : List ℕ) → Begins field (Short 7) m
 one-field = ended-number.one-ended 7 32 (omega arith) (omega arith) (λ d. omega (arith, d .0))
 
 -- what is still to come of a line, from its last part to the first
+abbrev pub after-meter : Slot → List ℕ → List ℕ
+after-meter s rest = word (letters-of s) ++ rest
+
 abbrev pub after-offer : Slot → List ℕ → List ℕ
-after-offer s rest = field (s .meter) ++ (word s ++ rest)
+after-offer s rest = field (s .meter) ++ after-meter s rest
 
 abbrev pub after-plan : Slot → List ℕ → List ℕ
 after-plan s rest = field (s .offer) ++ after-offer s rest
@@ -93,45 +91,10 @@ module _ {t0 : List ℕ} where
         past-offer none = past-plan (go (λ s. s .offer) (λ s k. k .offer) after-offer h none)
 
         pub no-meter : No-field t3 → No-line t0
-        no-meter none = past-offer (stop (λ s. s .meter) (λ s k. k .meter) (λ s rest. word s ++ rest) none)
+        no-meter none = past-offer (stop (λ s. s .meter) (λ s k. k .meter) after-meter none)
 
-        pub past-meter : {t4 : List ℕ} {e : ℕ} → Begins field (Short 7) e t3 t4 → None-of (λ s rest. word s ++ rest) t4 → No-line t0
-        past-meter k none = past-offer (go (λ s. s .meter) (λ s l. l .meter) (λ s rest. word s ++ rest) k none)
-
--- the bytes of the word, at the place p
-pub record Spelt (text : List ℕ) (p : ℕ) (s : Slot) : Type 0 where
-  pub room : 5 ≤ length text - p
-  pub outage : getD text p 0 ≡ outage-letter (s .outage)
-  pub low-reserve : getD text (p + 1) 0 ≡ flag-letter 76 (s .«low_reserve»)
-  pub dispatched : getD text (p + 2) 0 ≡ flag-letter 68 (s .dispatched)
-  pub papers : getD text (p + 3) 0 ≡ flag-letter 69 (s .papers)
-  pub end : getD text (p + 4) 0 ≡ 10
-
-pub spelt : (text : List ℕ) (p : ℕ) (s : Slot) (rest : List ℕ) → drop p text ≡ word s ++ rest → Spelt text p s
-spelt text p s rest e =
-    let zero : p ≡ p + 0 = omega arith in
-    let at : (k : ℕ) → getD text (p + k) 0 ≡ getD (word s ++ rest) k 0 = λ k. sym (getD-drop p text k 0) ∙ ap (λ l. getD l k 0) e in
-    record {
-      room = omega (arith, ap length e, length-drop p text);
-      outage = ap (λ k. getD text k 0) zero ∙ at 0;
-      low-reserve = at 1;
-      dispatched = at 2;
-      papers = at 3;
-      end = at 4;
-    }
-
--- the word there is of no slot
-pub no-word : (text : List ℕ) (p : ℕ) → ((s : Slot) → Spelt text p s → ⊥) → None-of (λ s rest. word s ++ rest) (drop p text)
-no-word text p none s rest h e = none s (spelt text p s rest e)
-
-pub spell : (text : List ℕ) (p : ℕ) (s : Slot) → Spelt text p s → drop p text ≡ word s ++ drop (p + 5) text
-spell text p s h =
-    let room = h .room in
-    step text p (p + 1) _ refl (omega arith) (h .outage)
-    ∙ ap (λ l. outage-letter (s .outage) ∷ l) (step text (p + 1) (p + 2) _ (omega arith) (omega arith) (h .low-reserve)
-    ∙ ap (λ l. flag-letter 76 (s .«low_reserve») ∷ l) (step text (p + 2) (p + 3) _ (omega arith) (omega arith) (h .dispatched)
-    ∙ ap (λ l. flag-letter 68 (s .dispatched) ∷ l) (step text (p + 3) (p + 4) _ (omega arith) (omega arith) (h .papers)
-    ∙ ap (λ l. flag-letter 69 (s .papers) ∷ l) (step text (p + 4) (p + 5) _ (omega arith) (omega arith) (h .end)))))
+        pub past-meter : {t4 : List ℕ} {e : ℕ} → Begins field (Short 7) e t3 t4 → None-of after-meter t4 → No-line t0
+        past-meter k none = past-offer (go (λ s. s .meter) (λ s l. l .meter) after-meter k none)
 
 -- the four fields that were read, and the places between them
 pub record Fields (t0 t1 t2 t3 t4 : List ℕ) (s : Slot) : Type 0 where
@@ -140,7 +103,7 @@ pub record Fields (t0 t1 t2 t3 t4 : List ℕ) (s : Slot) : Type 0 where
   pub offer : Begins field (Short 7) (s .offer) t2 t3
   pub meter : Begins field (Short 7) (s .meter) t3 t4
 
-line-from : (t0 t1 t2 t3 t4 rest : List ℕ) (s : Slot) → Fields t0 t1 t2 t3 t4 s → t4 ≡ word s ++ rest → Begins slot-text InForm s t0 rest
+pub line-from : (t0 t1 t2 t3 t4 rest : List ℕ) (s : Slot) → Fields t0 t1 t2 t3 t4 s → t4 ≡ after-meter s rest → Begins slot-text InForm s t0 rest
 line-from t0 t1 t2 t3 t4 rest s f e = record {
   fit = record { supply = f .supply .fit; plan = f .plan .fit; offer = f .offer .fit; meter = f .meter .fit };
   front =
@@ -148,53 +111,25 @@ line-from t0 t1 t2 t3 t4 rest s f e = record {
       ∙ sym (line-is s rest);
 }
 
-pub line-at : {t0 t1 t2 t3 : List ℕ} {s : Slot} (text : List ℕ) (p : ℕ) → Fields t0 t1 t2 t3 (drop p text) s → Spelt text p s → Begins slot-text InForm s t0 (drop (p + 5) text)
-line-at {s = s} text p f h = line-from _ _ _ _ _ _ s f (spell text p s h)
-
--- the letters differ
-abbrev outage-of : ℕ → Outage
-outage-of c = cond (eqb c 45) NoOutage (cond (eqb c 80) PlannedStop (cond (eqb c 85) UnplannedStop (cond (eqb c 112) PlannedSuppression UnplannedSuppression)))
-
-outage-back : (m : Outage) → outage-of (outage-letter m) ≡ m
-outage-back NoOutage = refl
-outage-back PlannedStop = refl
-outage-back UnplannedStop = refl
-outage-back PlannedSuppression = refl
-outage-back UnplannedSuppression = refl
-
-one-outage : (m n : Outage) → outage-letter m ≡ outage-letter n → m ≡ n
-one-outage m n e = sym (outage-back m) ∙ ap outage-of e ∙ outage-back n
-
-one-flag : (l : ℕ) (t u : Bool) → (l ≡ 45 → ⊥) → flag-letter l t ≡ flag-letter l u → t ≡ u
-one-flag l true true ne e = refl
-one-flag l true false ne e = absurd (ne e)
-one-flag l false true ne e = absurd (ne (sym e))
-one-flag l false false ne e = refl
-
 -- one line begins a text
 pub one-line : (s t : Slot) (us rest : List ℕ) → InForm s → InForm t → slot-text s ++ us ≡ slot-text t ++ rest → (s ≡ t) × (us ≡ rest)
 one-line s t us rest f g same =
     let p = one-field (s .supply) (t .supply) (whole-line s us) (after-supply s us) (after-supply t rest) (record { fit = f .supply; front = refl }) (record { fit = g .supply; front = sym (line-is s us) ∙ same ∙ line-is t rest }) in
     let q = one-field (s .plan) (t .plan) (after-supply s us) (after-plan s us) (after-plan t rest) (record { fit = f .plan; front = refl }) (record { fit = g .plan; front = p .1 }) in
     let r = one-field (s .offer) (t .offer) (after-plan s us) (after-offer s us) (after-offer t rest) (record { fit = f .offer; front = refl }) (record { fit = g .offer; front = q .1 }) in
-    let o = one-field (s .meter) (t .meter) (after-offer s us) (word s ++ us) (word t ++ rest) (record { fit = f .meter; front = refl }) (record { fit = g .meter; front = r .1 }) in
-    let words : word s ++ us ≡ word t ++ rest = o .1 in
-    let e0 : outage-letter (s .outage) ≡ outage-letter (t .outage) = cc in
-    let e1 : flag-letter 76 (s .«low_reserve») ≡ flag-letter 76 (t .«low_reserve») = cc in
-    let e2 : flag-letter 68 (s .dispatched) ≡ flag-letter 68 (t .dispatched) = cc in
-    let e3 : flag-letter 69 (s .papers) ≡ flag-letter 69 (t .papers) = cc in
-    let e4 : us ≡ rest = cc in (
+    let o = one-field (s .meter) (t .meter) (after-offer s us) (after-meter s us) (after-meter t rest) (record { fit = f .meter; front = refl }) (record { fit = g .meter; front = r .1 }) in
+    let w = one-word (letters-of s) (letters-of t) us rest (o .1) in (
       λ i. record {
         supply = p .0 i;
         plan = q .0 i;
         offer = r .0 i;
         meter = o .0 i;
-        outage = one-outage (s .outage) (t .outage) e0 i;
-        «low_reserve» = one-flag 76 (s .«low_reserve») (t .«low_reserve») (λ z. omega arith) e1 i;
-        dispatched = one-flag 68 (s .dispatched) (t .dispatched) (λ z. omega arith) e2 i;
-        papers = one-flag 69 (s .papers) (t .papers) (λ z. omega arith) e3 i;
+        outage = w .0 i .0;
+        «low_reserve» = w .0 i .1;
+        dispatched = w .0 i .2;
+        papers = w .0 i .3;
       },
-      e4,
+      w .1,
     )
 
 -- a field has at most eight bytes
@@ -209,7 +144,7 @@ short-lines s f =
     let d = field (s .meter) in
     omega (
       arith,
-      length-append (a ++ b ++ c ++ d) (word s),
+      length-append (a ++ b ++ c ++ d) (word (letters-of s)),
       length-append (a ++ b ++ c) d,
       length-append (a ++ b) c,
       length-append a b,
@@ -221,4 +156,4 @@ short-lines s f =
 
 pub no-empty-line : (s : Slot) (rest : List ℕ) → [] ≡ slot-text s ++ rest → ⊥
 no-empty-line s rest e =
-    omega (arith, ap length e, length-append (slot-text s) rest, length-append (field (s .supply) ++ field (s .plan) ++ field (s .offer) ++ field (s .meter)) (word s))
+    omega (arith, ap length e, length-append (slot-text s) rest, length-append (field (s .supply) ++ field (s .plan) ++ field (s .offer) ++ field (s .meter)) (word (letters-of s)))

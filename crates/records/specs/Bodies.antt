@@ -7,6 +7,7 @@ use Rattle.std.specs.declared.option.Option.{Option}
 use Rattle.std.specs.declared.option.Option.the-variants.{Some, None}
 use Rattle.std.specs.declared.result.Result.{Result}
 use Rattle.std.specs.declared.result.Result.the-variants.{Ok, Err}
+use Rattle.std.specs.shelf.Lists.{All}
 use Rattle.text.specs.Files.{Format, texts, Stop, complete, out-of-form, out-of-limits, StopsAt}
 use Rattle.records.specs.declared.slot.Slot.{Slot}
 use Rattle.records.specs.declared.body.BodyRefusal.{BodyRefusal}
@@ -48,6 +49,10 @@ outcome (Err e) slots = Err e
 -- a text has one verdict
 abbrev pub One-verdict : Type 0
 One-verdict = (count : Option ℕ) (room : ℕ) (text : List ℕ) (v w : Result (List Slot) BodyRefusal) → Verdict count room text v → Verdict count room text w → v ≡ w
+
+-- what is written of slots within their limits is read as those slots
+abbrev pub Reads-back : Type 0
+Reads-back = (slots : List Slot) → All Within slots → Judged (length slots) (body-text slots) (Ok slots)
 
 -- a line in form has at most 37 bytes
 abbrev pub Short-lines : Type 0

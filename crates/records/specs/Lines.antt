@@ -22,9 +22,19 @@ outage-letter UnplannedSuppression = 117
 abbrev pub flag-letter : ℕ → Bool → ℕ
 flag-letter letter holds = cond holds letter 45
 
--- the outage, L for a low reserve, D for a dispatch instruction, E for papers, and the line's end
-abbrev pub word : Slot → List ℕ
-word s = outage-letter (s .outage) ∷ flag-letter 76 (s .«low_reserve») ∷ flag-letter 68 (s .dispatched) ∷ flag-letter 69 (s .papers) ∷ 10 ∷ []
+-- the outage, and whether the reserve is low, a dispatch instruction was given and papers were shown
+abbrev pub Letters : Type 0
+Letters = Outage × Bool × Bool × Bool
+
+abbrev pub letters-of : Slot → Letters
+letters-of s = (s .outage, s .«low_reserve», s .dispatched, s .papers)
+
+-- the four letters, the last three L, D and E, and the line's end
+abbrev pub word : Letters → List ℕ
+word l = outage-letter (l .0) ∷ flag-letter 76 (l .1) ∷ flag-letter 68 (l .2) ∷ flag-letter 69 (l .3) ∷ 10 ∷ []
+
+abbrev pub WordFirst : Letters → List ℕ → List ℕ → Type 0
+WordFirst l bs rest = bs ≡ word l ++ rest
 
 -- a number and a blank
 abbrev pub field : ℕ → List ℕ
@@ -32,7 +42,7 @@ field n = ended 32 n
 
 -- the line of a slot
 abbrev pub slot-text : Slot → List ℕ
-slot-text s = field (s .supply) ++ field (s .plan) ++ field (s .offer) ++ field (s .meter) ++ word s
+slot-text s = field (s .supply) ++ field (s .plan) ++ field (s .offer) ++ field (s .meter) ++ word (letters-of s)
 
 -- each number has at most seven digits
 pub record InForm (s : Slot) : Type 0 where

@@ -2,14 +2,12 @@
 ghost use mathlib.Core.Path.{_≡_};
 ghost use mathlib.Core.Bool.{true};
 ghost use lib.ListN.{length};
-ghost use Rattle.std.specs.Orderings.{Decides};
 ghost use Rattle.std.specs.Results.{isErr};
 ghost use Rattle.calendar.specs.Calendar.{slotsIn};
 ghost use Rattle.text.specs.Front.{Begins, Reads};
 ghost use Rattle.text.specs.Number.{Short};
-ghost use Rattle.records.specs.Slots.{Within};
-ghost use Rattle.records.specs.Lines.{InForm, ReadsLetter, outage-letter, flag-letter, field, slot-text};
-ghost use Rattle.records.specs.Bodies.{Judged, Verdict, One-verdict, Short-lines, outcome};
+ghost use Rattle.records.specs.Lines.{InForm, ReadsLetter, WordFirst, outage-letter, flag-letter, field, slot-text};
+ghost use Rattle.records.specs.Bodies.{Judged, Verdict, One-verdict, Reads-back, Short-lines, outcome};
 ghost use Rattle.records.specs.Refusals.{bodyRefusal};
 use crate::slot::Outage;
 use crate::slot::Slot;
@@ -22,12 +20,6 @@ const MOST_DIGITS: usize = 7;
 
 // The letters of a line and its end.
 const WORD_BYTES: usize = 5;
-
-// The most kW of a slot.
-const MOST_POWER: u32 = 2_000_000;
-
-// The most kWh of a slot.
-const MOST_ENERGY: u32 = 1_000_000;
 
 // The slots of a month of 31 days.
 const MOST_SLOTS: usize = 1488;
@@ -49,24 +41,13 @@ impl BodyRefusal {
     pub fn refusal(&self) -> Refusal
         ensures { λ r. ⌜ r ≡ bodyRefusal (now (self .entry)) ⌝ }
     {
-        match *self {
-            BodyRefusal::WrongSlotCount => Refusal {
-                number: 8,
-                place: 0,
-            },
-            BodyRefusal::Form(line) => Refusal {
-                number: 9,
-                place: line,
-            },
-            BodyRefusal::Limit(line) => Refusal {
-                number: 10,
-                place: line,
-            },
-            BodyRefusal::LineCount => Refusal {
-                number: 11,
-                place: 0,
-            },
-        }
+        let (number, place) = match *self {
+            BodyRefusal::WrongSlotCount => (8, 0),
+            BodyRefusal::Form(line) => (9, line),
+            BodyRefusal::Limit(line) => (10, line),
+            BodyRefusal::LineCount => (11, 0),
+        };
+        Refusal { number, place }
     }
 }
 
@@ -106,15 +87,11 @@ fn read_field(text: &[u8], at: usize) -> Option<(u32, usize)>
     }
 }
 
-// The line that begins at `at`, and where the next one begins.
-fn read_line(text: &[u8], at: usize) -> Option<(Slot, usize)>
-    ensures { λ r. ⌜ Reads (Begins slot-text InForm) (now (text .entry)) at r ⌝ }
+// The four letters at `at`, with the line's end after them.
+fn read_word(text: &[u8], at: usize) -> Option<((Outage, bool, bool, bool), usize)>
+    ensures { λ r. ⌜ Reads WordFirst (now (text .entry)) at r ⌝ }
 {
-    let (supply, at) = read_field(text, at)?;
-    let (plan, at) = read_field(text, at)?;
-    let (offer, at) = read_field(text, at)?;
-    let (meter, at) = read_field(text, at)?;
-    if text.len() - at < WORD_BYTES {
+    if text.len().saturating_sub(at) < WORD_BYTES {
         return None;
     }
     let outage = read_outage(text[at])?;
@@ -124,6 +101,18 @@ fn read_line(text: &[u8], at: usize) -> Option<(Slot, usize)>
     if text[at + 4] != b'\n' {
         return None;
     }
+    Some(((outage, low_reserve, dispatched, papers), at + WORD_BYTES))
+}
+
+// The line that begins at `at`, and where the next one begins.
+fn read_line(text: &[u8], at: usize) -> Option<(Slot, usize)>
+    ensures { λ r. ⌜ Reads (Begins slot-text InForm) (now (text .entry)) at r ⌝ }
+{
+    let (supply, at) = read_field(text, at)?;
+    let (plan, at) = read_field(text, at)?;
+    let (offer, at) = read_field(text, at)?;
+    let (meter, at) = read_field(text, at)?;
+    let ((outage, low_reserve, dispatched, papers), at) = read_word(text, at)?;
     let slot = Slot {
         supply,
         plan,
@@ -134,16 +123,7 @@ fn read_line(text: &[u8], at: usize) -> Option<(Slot, usize)>
         dispatched,
         papers,
     };
-    Some((slot, at + WORD_BYTES))
-}
-
-fn is_within(s: &Slot) -> bool
-    ensures { λ r. ⌜ Decides r (Within (now (s .entry))) ⌝ }
-{
-    s.supply <= MOST_POWER
-        && s.plan <= MOST_POWER
-        && s.offer <= MOST_POWER
-        && s.meter <= MOST_ENERGY
+    Some((slot, at))
 }
 
 // Reads as many lines as there are slots. After a refusal some slots may be new.
@@ -158,7 +138,7 @@ fn read_lines(text: &[u8], slots: &mut [Slot]) -> Result<(), BodyRefusal>
         let Some((slot, next)) = read_line(text, at) else {
             return Err(BodyRefusal::Form(i + 1));
         };
-        if !is_within(&slot) {
+        if !slot.is_within() {
             return Err(BodyRefusal::Limit(i + 1));
         }
         slots[i] = slot;
@@ -176,6 +156,7 @@ pub fn read_body(year: u16, month: u8, text: &[u8], slots: &mut [Slot]) -> Resul
     ensures verdict { λ r. ⌜ Verdict (slotsIn year month) (length (now (slots .entry))) (now (text .entry)) (outcome r (now (slots .exit))) ⌝ }
     ensures unchanged { λ r. ⌜ (isErr r ≡ true → now (slots .exit) ≡ now (slots .entry)) ⌝ }
     ensures one_verdict { λ _. ⌜ One-verdict ⌝ }
+    ensures reads_back { λ _. ⌜ Reads-back ⌝ }
     ensures short_lines { λ _. ⌜ Short-lines ⌝ }
 {
     let Some(count) = slots_in(year, month) else {

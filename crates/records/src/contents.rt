@@ -44,16 +44,11 @@ impl ContentsRefusal {
     pub fn refusal(&self) -> Refusal
         ensures { λ r. ⌜ r ≡ contentsRefusal (now (self .entry)) ⌝ }
     {
-        match *self {
-            ContentsRefusal::Form(month) => Refusal {
-                number: 6,
-                place: month,
-            },
-            ContentsRefusal::Start(month) => Refusal {
-                number: 7,
-                place: month,
-            },
-        }
+        let (number, place) = match *self {
+            ContentsRefusal::Form(month) => (6, month),
+            ContentsRefusal::Start(month) => (7, month),
+        };
+        Refusal { number, place }
     }
 }
 

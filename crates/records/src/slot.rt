@@ -2,6 +2,12 @@
 ghost use Rattle.std.specs.Orderings.{Decides};
 ghost use Rattle.records.specs.Slots.{Within};
 
+// The most kW of a slot.
+const MOST_POWER: u32 = 2_000_000;
+
+// The most kWh of a slot.
+const MOST_ENERGY: u32 = 1_000_000;
+
 // What the outage plan says of the half hour.
 #[derive(Clone, Copy, Debug, PartialEq, Eq)]
 pub enum Outage {
@@ -49,9 +55,9 @@ impl Slot {
     pub fn is_within(&self) -> bool
         ensures { λ r. ⌜ Decides r (Within (now (self .entry))) ⌝ }
     {
-        self.supply <= 2_000_000
-            && self.plan <= 2_000_000
-            && self.offer <= 2_000_000
-            && self.meter <= 1_000_000
+        self.supply <= MOST_POWER
+            && self.plan <= MOST_POWER
+            && self.offer <= MOST_POWER
+            && self.meter <= MOST_ENERGY
     }
 }

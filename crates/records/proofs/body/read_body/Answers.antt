@@ -10,7 +10,7 @@ use Rattle.std.proofs.shelf.Tests.{false≢true}
 use Rattle.calendar.proofs.Slots.{slots-upto}
 use Rattle.records.specs.declared.slot.Slot.{Slot}
 use Rattle.records.proofs.Lines.{short-lines}
-use Rattle.records.proofs.Bodies.{one-verdict, no-month, wrong-room, right-room}
+use Rattle.records.proofs.Bodies.{one-verdict, reads-back, no-month, wrong-room, right-room}
 use Rattle.records.proofs.body.read_body.Needs as need
 use Rattle.records.proofs.body.read_body.Needs.{In-Some}
 
@@ -22,11 +22,11 @@ upto : (c : In-Some) → c .in-Some .count ≤ 1488
 upto c = slots-upto (c .args .year) (c .args .month) (c .in-Some .count) (sym (c .in-Some .ensures tt))
 
 pub returns-in-rest : need.returns-in-rest
-returns-in-rest c = record { verdict = no-month _ _ (c .in-rest .ensures tt); unchanged = λ _. refl; one-verdict = one-verdict; short-lines = short-lines }
+returns-in-rest c = record { verdict = no-month _ _ (c .in-rest .ensures tt); unchanged = λ _. refl; one-verdict = one-verdict; reads-back = reads-back; short-lines = short-lines }
 
 pub returns-then-slots-count : need.returns-then-slots-count
 returns-then-slots-count c =
-    record { verdict = wrong-room _ _ (c .in-Some .ensures tt) (c .if-slots-count .taken); unchanged = λ _. refl; one-verdict = one-verdict; short-lines = short-lines }
+    record { verdict = wrong-room _ _ (c .in-Some .ensures tt) (c .if-slots-count .taken); unchanged = λ _. refl; one-verdict = one-verdict; reads-back = reads-back; short-lines = short-lines }
 
 pub part-room-end : need.part-room-end
 part-room-end c = let h = upto (need.at·part-room-end c .In-Some) in search needs
@@ -38,6 +38,7 @@ returns-in-Break-read-lines c =
       verdict = right-room _ _ (c .in-Some .ensures tt) (c .if-slots-count .left) (c .in-Break-read-lines .ensures tt) (part-long _ _ (upto (need.at·returns-in-Break-read-lines c .In-Some)));
       unchanged = λ _. refl;
       one-verdict = one-verdict;
+      reads-back = reads-back;
       short-lines = short-lines;
     }
 
@@ -47,5 +48,6 @@ returns c = record {
       rw e (right-room _ _ (c .in-Some .ensures tt) (c .if-slots-count .left) (c .in-Continue-read-lines .ensures tt) (part-long _ _ (upto (need.at·returns c .In-Some))));
   unchanged = λ e. absurd (false≢true e);
   one-verdict = one-verdict;
+  reads-back = reads-back;
   short-lines = short-lines;
 }
