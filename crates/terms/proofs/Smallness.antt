@@ -1,6 +1,4 @@
 -- The bounds of products and sums of fractions, and the whole part as a quotient.
-use mathlib.Core.Path.{_≡_, sym, subst, _∙_}
-use mathlib.Core.Bool.{cond}
 use Prim.Native.Nat.{ℕ, _+_, _*_, _/_, _<_, _≤_}
 use native.Mathlib.Nat.{mul-comm, mul-assoc, add-mul, mul-mul-mul-comm, div-mul-le-self, lt-mul-div-succ, div-le-of-le-mul}
 use native.Mathlib.Omega.{arith}

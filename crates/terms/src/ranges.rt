@@ -1,9 +1,6 @@
 // The ranges of the terms.
 ghost use mathlib.Core.Path.{_≡_};
 ghost use mathlib.Core.Bool.{_&&_};
-ghost use Prim.Native.Nat.{ℕ, _<_};
-ghost use lib.ListN.{length};
-ghost use Rattle.std.specs.Orderings.{Decides};
 ghost use Rattle.terms.specs.Ranges.{firstOut, inRange, numbers, stands};
 use crate::terms::Terms;
 
