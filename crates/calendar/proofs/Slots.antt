@@ -4,7 +4,7 @@ use Prim.Native.Nat.{ℕ, _*_, _≤_}
 use native.Mathlib.Omega.{arith}
 use Rattle.std.specs.declared.option.Option.the-variants.{Some}
 use Rattle.std.proofs.shelf.Tests.{le-leb}
-use Rattle.calendar.specs.Calendar.{slotsIn, known, fiscalDays}
+use Rattle.calendar.specs.Calendar.{slotsIn, fiscalDays}
 use Rattle.calendar.proofs.Months.{fiscal-long, fiscal-short}
 
 pub slots-from : (y m n : ℕ) → slotsIn y m ≡ Some n → 1344 ≤ n

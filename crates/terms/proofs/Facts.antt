@@ -5,13 +5,13 @@ use Prim.Native.Nat.{ℕ, _*_, _≤_}
 use native.Mathlib.Omega.{arith}
 use lib.Dec.{T}
 use lib.IntN.{ℤ, pos, negsuc}
-use lib.Signed.{leZ, _≤ℤ_, leZ-yes}
+use lib.Signed.{leZ, leZ-yes}
 use Rattle.std.specs.declared.option.Option.the-variants.{None}
 use Rattle.std.proofs.shelf.Tests.{and-parts, leb-true}
 use Rattle.terms.specs.declared.terms.Index.{Index}
 use Rattle.terms.specs.declared.terms.Terms.{Terms}
 use Rattle.terms.specs.Bounds.{IndexInRange, RateInRange, PriceInRange}
-use Rattle.terms.specs.Ranges.{numbers, inRange, firstOut, within}
+use Rattle.terms.specs.Ranges.{numbers, firstOut, within}
 use Rattle.terms.proofs.Walk.{all-in}
 
 -- a number that has no sign

@@ -1,6 +1,4 @@
 -- The bounds of products and sums of fractions, and the whole part as a quotient.
-use mathlib.Core.Path.{_≡_, sym, subst, _∙_}
-use mathlib.Core.Bool.{cond}
 use Prim.Native.Nat.{ℕ, _+_, _*_, _/_, _<_, _≤_}
 use native.Mathlib.Nat.{mul-comm, mul-assoc, add-mul, mul-mul-mul-comm, div-mul-le-self, lt-mul-div-succ, div-le-of-le-mul}
 use native.Mathlib.Omega.{arith}
@@ -10,8 +8,8 @@ use Rattle.std.proofs.shelf.Tests.{cond-both}
 use Rattle.terms.specs.declared.fraction.Fraction.{Fraction}
 use Rattle.terms.specs.declared.terms.Index.{Index}
 use Rattle.terms.specs.Bounds.{Small, IndexInRange}
-use Rattle.terms.specs.Fractions.{over, one, of, times, plus, cut, WholePart}
-use Rattle.terms.specs.Price.{factor}
+use Rattle.terms.specs.Fractions.{one, of, times, plus, cut, WholePart}
+use Rattle.terms.specs.Price.{ratio, factor}
 
 pub of-small : {n d k M : ℕ} (m : ℕ) (f : Fraction) → m ≤ M → Small n d k f → Small (M * n) d (M * k) (of m f)
 of-small {n} {d} {k} {M} m f h s =
@@ -44,14 +42,13 @@ plus-small {n} {d} {k} {n′} {d′} {k′} f g s t =
       worth = omega (arith, add-mul k k′ (f .den * g .den), mul-assoc k (f .den) (g .den), mul-assoc k′ (g .den) (f .den), mul-comm (f .den) (g .den));
     }
 
--- the index of a settled year over that of the bid
-pub index-small : (i : Index) → IndexInRange i → Small 9999 9999 100 (over (i .settled) (i .bid))
-index-small i h = record { top = h .settled-to; bottom = h .bid-to; some = omega (arith, h .bid-from); worth = omega (arith, h .bid-from, h .settled-to) }
+pub ratio-small : (i : Index) → IndexInRange i → Small 9999 9999 100 (ratio i)
+ratio-small i h = record { top = h .settled-to; bottom = h .bid-to; some = omega (arith, h .bid-from); worth = omega (arith, h .bid-from, h .settled-to) }
 
 pub factor-small : (choice : ℕ) (i : Index) → IndexInRange i → Small 9999 9999 100 (factor choice i)
 factor-small choice i h =
-    cond-both (eqb choice 1) (over (i .settled) (i .bid)) one (λ f. Small 9999 9999 100 f)
-    (λ e. index-small i h)
+    cond-both (eqb choice 1) (ratio i) one (λ f. Small 9999 9999 100 f)
+    (λ e. ratio-small i h)
     (λ e. record { top = omega arith; bottom = omega arith; some = omega arith; worth = omega arith })
 
 -- the quotient is the whole part

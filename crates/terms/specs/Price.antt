@@ -1,6 +1,6 @@
 -- The price of a contract year, and the contract that comes of it.
 use mathlib.Core.Path.{_≡_}
-use mathlib.Core.Bool.{Bool, true, false, cond, _&&_}
+use mathlib.Core.Bool.{cond, _&&_}
 use Prim.Native.Nat.{ℕ, _+_, _-_, _*_}
 use lib.Dec.{eqb, ltb}
 use lib.IntN.{ℤ, pos, negsuc, _+ℤ_, _-ℤ_}
@@ -19,9 +19,13 @@ use Rattle.terms.specs.declared.terms.Terms.{Terms}
 use Rattle.terms.specs.Fractions.{over, one, of, times, plus, cut, WholePart}
 use Rattle.terms.specs.Ranges.{numbers, firstOut}
 
+-- how an index has moved since the bid
+abbrev pub ratio : Index → Fraction
+ratio i = over (i .settled) (i .bid)
+
 -- an index moves an item where its choice is 1
 abbrev pub factor : ℕ → Index → Fraction
-factor choice i = cond (eqb choice 1) (over (i .settled) (i .bid)) one
+factor choice i = cond (eqb choice 1) (ratio i) one
 
 -- a number of parts of 5,000 is a factor unless it is below 0
 abbrev pub parts : ℤ → Option Fraction
@@ -45,7 +49,7 @@ itemised t rate =
 
 -- method 2: all three items move with the consumer index
 abbrev pub together : Terms → Fraction
-together t = of (t .capital + t .upkeep + t .returns) (over (t .consumer .settled) (t .consumer .bid))
+together t = of (t .capital + t .upkeep + t .returns) (ratio (t .consumer))
 
 -- the exact total
 abbrev pub total : Terms → Fraction → Fraction

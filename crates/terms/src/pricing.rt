@@ -2,10 +2,10 @@
 ghost use mathlib.Core.Path.{_≡_};
 ghost use Prim.Native.Nat.{_≤_};
 ghost use Rattle.std.specs.Options.{Cases as BySome};
+ghost use Rattle.std.specs.Results.{Cases};
 ghost use Rattle.terms.specs.Bounds.{IndexInRange, PriceInRange, Small};
 ghost use Rattle.terms.specs.Fractions.{of};
-ghost use Rattle.std.specs.Results.{Cases};
-ghost use Rattle.terms.specs.Price.{agreed, contractOf, CutOnce, factor, itemised, rateFactor, together, total};
+ghost use Rattle.terms.specs.Price.{CutOnce, agreed, contractOf, factor, itemised, rateFactor, ratio, together, total};
 use crate::contract::PricedTerms;
 use crate::figures::Contract;
 use crate::fraction::Fraction;
@@ -20,20 +20,28 @@ const MAX_PRICE: u32 = 1_000_000;
 // The rates move the return in parts of this number.
 const RATE_PARTS: i32 = 5_000;
 
+// How an index has moved since the bid.
+fn ratio(index: Index) -> Fraction
+    ensures { λ r. ⌜ r ≡ ratio index ⌝ }
+{
+    Fraction {
+        num: index.settled as u128,
+        den: index.bid as u128,
+    }
+}
+
+// What an index moves an item by: nothing where the choice is 0.
 fn factor(choice: u32, index: Index) -> Fraction
     ensures { λ r. ⌜ r ≡ factor choice index ⌝ }
 {
     if choice == 1 {
-        Fraction {
-            num: index.settled as u128,
-            den: index.bid as u128,
-        }
+        ratio(index)
     } else {
         Fraction::ONE
     }
 }
 
-// None where the factor would be below 0.
+// What the rates move the return by. None where that would be below 0.
 fn rate_factor(terms: &Terms) -> Option<Fraction>
     requires { ⌜ PriceInRange (now terms) ⌝ }
     ensures value { λ r. ⌜ r ≡ rateFactor (now (terms .entry)) ⌝ }
@@ -62,7 +70,7 @@ fn item(yen: u32, choice: u32, index: Index) -> Fraction
     Fraction::of(yen, factor(choice, index))
 }
 
-// Method 1.
+// Method 1: each item moves with its own index.
 fn itemised(terms: &Terms, rate: Fraction) -> Fraction
     requires ranges { ⌜ PriceInRange (now terms) ⌝ }
     requires rate { ⌜ Small 21000 5000 5 rate ⌝ }
@@ -75,18 +83,16 @@ fn itemised(terms: &Terms, rate: Fraction) -> Fraction
     capital.plus(upkeep).plus(returns.times(rate))
 }
 
-// Method 2.
+// Method 2: all items move with the consumer index.
 fn together(terms: &Terms) -> Fraction
     requires { ⌜ PriceInRange (now terms) ⌝ }
     ensures value { λ r. ⌜ r ≡ together (now (terms .entry)) ⌝ }
     ensures small { λ r. ⌜ Small 5999400000 9999 60000000 r ⌝ }
 {
-    let index = terms.consumer;
-    let factor = Fraction {
-        num: index.settled as u128,
-        den: index.bid as u128,
-    };
-    Fraction::of(terms.capital + terms.upkeep + terms.returns, factor)
+    Fraction::of(
+        terms.capital + terms.upkeep + terms.returns,
+        ratio(terms.consumer),
+    )
 }
 
 // The exact total.

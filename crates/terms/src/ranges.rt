@@ -1,9 +1,6 @@
 // The ranges of the terms.
 ghost use mathlib.Core.Path.{_≡_};
 ghost use mathlib.Core.Bool.{_&&_};
-ghost use Prim.Native.Nat.{ℕ, _<_};
-ghost use lib.ListN.{length};
-ghost use Rattle.std.specs.Orderings.{Decides};
 ghost use Rattle.terms.specs.Ranges.{firstOut, inRange, numbers, stands};
 use crate::terms::Terms;
 
@@ -17,25 +14,30 @@ const ASSESSED: usize = 3;
 
 // The lowest and the highest number of each line. A number of either sign and of any width of the terms fits the type.
 const RANGES: [(i128, i128); COUNT] = [
+    // plant, fiscal year, contract capacity, assessed capacity, hours
     (1, 999_999),
     (2025, 2074),
     (1, 2_000_000),
     (1, 2_000_000),
     (1, 1_000),
+    // capital, upkeep, return
     (0, 200_000),
     (0, 200_000),
     (0, 200_000),
+    // method and choices
     (1, 2),
     (0, 1),
     (0, 1),
     (0, 1),
     (0, 1),
+    // three indices, each of the bid and of the settled year
     (100, 9_999),
     (100, 9_999),
     (100, 9_999),
     (100, 9_999),
     (100, 9_999),
     (100, 9_999),
+    // rates and reduction
     (-1_000, 15_000),
     (-1_000, 15_000),
     (0, 2_000_000_000_000),

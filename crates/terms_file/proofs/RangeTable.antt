@@ -1,9 +1,9 @@
 -- Facts of the ranges, each computed over the whole table.
 use mathlib.Core.Path.{_≡_, refl, sym, ap, subst, _∙_}
-use mathlib.Core.Bool.{Bool, true, false, _&&_, _||_}
+use mathlib.Core.Bool.{Bool, true, _&&_, _||_}
 use mathlib.Core.List.{List}
 use mathlib.Core.Logic.{⊎-elim}
-use Prim.Native.Nat.{ℕ, zero, suc, _^_, _≤_, _<_}
+use Prim.Native.Nat.{ℕ, zero, suc, _<_}
 use native.Mathlib.Omega.{arith}
 use lib.Dec.{T}
 use lib.IntN.{ℤ, pos, negsuc}
@@ -11,9 +11,8 @@ use lib.ListN.{getD}
 use lib.Signed.{leZ, _≤ℤ_, leZ-yes}
 use Rattle.std.specs.declared.option.Option.the-variants.{None}
 use Rattle.std.proofs.shelf.Signed.{ints}
-use Rattle.std.proofs.shelf.Tests.{and-parts, or-cases, cases-eq, false≢true}
-use Rattle.text.specs.Number.{Short}
-use Rattle.terms.specs.Ranges.{ranges, within, inRange, firstOut}
+use Rattle.std.proofs.shelf.Tests.{and-parts, or-cases, cases-eq}
+use Rattle.terms.specs.Ranges.{ranges, inRange, firstOut}
 use Rattle.terms_file.specs.TermsFile.{InForm, rateAt}
 use Rattle.terms.proofs.Walk.{all-in}
 

@@ -1,5 +1,5 @@
 -- The verdict on a text of terms.
-use mathlib.Core.Path.{_≡_, refl, sym, ap, subst, _∙_}
+use mathlib.Core.Path.{_≡_, refl, sym, ap, _∙_}
 use mathlib.Core.Bool.{Bool, true, false, _&&_}
 use mathlib.Core.List.{List, [], _∷_, _++_, append-nil}
 use Prim.Native.Nat.{ℕ, _+_, _≤_, _<_}
@@ -9,16 +9,16 @@ use lib.ListN.{length, getD, take, drop, set, length-set}
 use Rattle.std.specs.declared.option.Option.the-variants.{None}
 use Rattle.std.specs.declared.result.Result.{Result}
 use Rattle.std.specs.declared.result.Result.the-variants.{Ok, Err}
-use Rattle.std.proofs.shelf.Lists.{length-take-le, take-all, drop-all, drop-more}
+use Rattle.std.proofs.shelf.Lists.{length-take-le, drop-all, drop-more}
 use Rattle.std.proofs.shelf.Tests.{false≢true}
 use Rattle.text.specs.Front.{Begins}
-use Rattle.text.specs.Files.{texts, Upto, Stop, complete, out-of-form, out-of-limits, StopsAt}
+use Rattle.text.specs.Files.{texts, Upto, complete, out-of-form, out-of-limits}
 use Rattle.text.proofs.Records as records
 use Rattle.terms_file.specs.declared.refusals.TermsRefusal.{TermsRefusal}
 use Rattle.terms_file.specs.declared.refusals.TermsRefusal.the-variants.{Form, Range}
 use Rattle.terms.specs.declared.terms.Terms.{Terms}
 use Rattle.terms.specs.Ranges.{numbers, stands, inRange, firstOut}
-use Rattle.terms_file.specs.TermsFile.{line-text, InForm, file, answer, Judged, read, Verdict, IsTextOf, One-verdict, Reads-back}
+use Rattle.terms_file.specs.TermsFile.{line-text, InForm, file, answer, Judged, read, IsTextOf, One-verdict, Reads-back}
 use Rattle.terms_file.proofs.InRange.{all-good, good-all, range-put}
 use Rattle.terms_file.proofs.Lines.{one-line}
 use Rattle.terms.proofs.Walk.{all-in, none-out, range-told}

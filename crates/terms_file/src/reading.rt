@@ -1,13 +1,12 @@
 // Reads a text of terms: a number on each of 22 lines.
 ghost use mathlib.Core.Path.{_≡_};
-ghost use mathlib.Core.Bool.{true};
 ghost use Prim.Native.Nat.{_+_, _<_};
 ghost use lib.IntN.{pos};
 ghost use lib.ListN.{length, getD};
 ghost use Rattle.std.specs.Orderings.{Decides};
 ghost use Rattle.std.specs.Results.{Cases};
 ghost use Rattle.std.specs.declared.option.Option.the-variants.{None};
-ghost use Rattle.terms.specs.Ranges.{firstOut, inRange, numbers};
+ghost use Rattle.terms.specs.Ranges.{firstOut, numbers};
 ghost use Rattle.terms_file.specs.TermsFile.{InForm, IsTextOf, One-verdict, Reads-back, Verdict, line-text, rateAt};
 ghost use Rattle.text.specs.Front.{Begins, Reads};
 ghost use Rattle.text.specs.Number.{Short, ended};

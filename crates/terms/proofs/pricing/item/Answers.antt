@@ -1,6 +1,4 @@
-use mathlib.Core.Path.{_≡_, sym, ap, subst, _∙_}
-use Prim.Native.Nat.{_*_, _<_, _^_}
-use native.Mathlib.Omega.{arith}
+use mathlib.Core.Path.{sym, ap, subst, _∙_}
 use Rattle.terms.specs.declared.fraction.Fraction.{Fraction}
 use Rattle.terms.specs.Bounds.{Small}
 use Rattle.terms.specs.Fractions.{of}

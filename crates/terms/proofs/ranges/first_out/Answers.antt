@@ -1,7 +1,5 @@
-use mathlib.Core.Path.{_≡_, refl, sym, ap, subst, _∙_}
-use Prim.Native.Nat.{ℕ, _≤_, _-_}
+use mathlib.Core.Path.{refl, sym, ap, _∙_}
 use native.Mathlib.Omega.{arith}
-use Rattle.std.specs.declared.option.Option.the-variants.{Some, None}
 use Rattle.terms.specs.Ranges.{firstOut}
 use Rattle.terms.proofs.Walk.{range-told, walk-on, walk-stops, walk-ends}
 use Rattle.terms.proofs.ranges.first_out.Needs as need
