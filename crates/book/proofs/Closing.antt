@@ -17,7 +17,7 @@ use Rattle.book.specs.declared.table.Table.{Table}
 use Rattle.book.specs.declared.table.Notice.{Notice}
 use Rattle.book.specs.Lines.{empty}
 use Rattle.book.specs.Refusals.{from-slots}
-use Rattle.book.specs.Calls.{open-month, next-line, notice-of, with-line, Closes, RefusesClose, Awaits}
+use Rattle.book.specs.Calls.{open-month, next-line, notice-of, with-line, Closes, RefusesClose, Awaits, HandedBack}
 
 module _ (a : Table) (slots : List Slot) (none-out : a .out ≡ false) (left : a .settled < 12) where
   refused-at : (e : SlotsRefusal) → Refuses (open-month a) slots e → RefusesClose a slots (from-slots e)
@@ -47,3 +47,7 @@ module _ {a b : Table} {slots : List Slot} {rules : PerRule RuleOf} {n : Notice}
 
   pub awaits-closed : Awaits b n
   awaits-closed = subst (λ t. Awaits t n) (sym (s .left)) awaits-given
+
+-- a notice that was handed back is awaited as before
+pub awaits-back : {a b : Table} {n back : Notice} → HandedBack a n back b → Awaits a n → Awaits b back
+awaits-back {a} {b} {n} {back} h w = subst (λ t. Awaits t back) (sym (h .unchanged)) (subst (λ k. Awaits a k) (sym (h .back-same)) w)
