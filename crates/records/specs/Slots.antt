@@ -29,6 +29,10 @@ NoWorseOutage b a =
     ⊎ ((b ≡ PlannedStop) × (a ≡ UnplannedStop))
     ⊎ ((b ≡ PlannedSuppression) × (a ≡ UnplannedSuppression))
 
+-- the same supply, or of a plant that stands still at least as much
+abbrev pub NoWorseSupply : Slot → Slot → Type 0
+NoWorseSupply b a = (b .supply ≡ a .supply) ⊎ (Stopped (b .outage) × (a .supply ≤ b .supply))
+
 -- the slot b is no worse than the slot a
 pub record NoWorse (b a : Slot) : Type 0 where
   pub outage : NoWorseOutage (b .outage) (a .outage)
@@ -38,4 +42,4 @@ pub record NoWorse (b a : Slot) : Type 0 where
   pub plan : a .plan ≤ b .plan
   pub offer : a .offer ≤ b .offer
   pub meter : a .meter ≤ b .meter
-  pub supply : (b .supply ≡ a .supply) ⊎ (Stopped (b .outage) × (a .supply ≤ b .supply))
+  pub supply : NoWorseSupply b a
