@@ -1,10 +1,10 @@
--- What reading a body says, at the open month of a book.
+-- What reading a body says.
 use mathlib.Core.Path.{_≡_, ap, subst, _∙_}
 use mathlib.Core.List.{List}
-use Prim.Native.Nat.{ℕ}
+use Prim.Native.Nat.{ℕ, _-_, _≤_}
+use native.Mathlib.Omega.{arith}
+use lib.ListN.{length, take, length-take}
 use Rattle.std.specs.declared.result.Result.{Result}
-use Rattle.book.specs.declared.table.Table.{Table}
-use Rattle.book.specs.Calls.{open-month}
 use Rattle.calendar.specs.Calendar.{slotsIn}
 use Rattle.records.specs.declared.body.BodyRefusal.{BodyRefusal}
 use Rattle.records.specs.declared.slot.Slot.{Slot}
@@ -12,6 +12,10 @@ use Rattle.records.specs.Bodies.{Verdict}
 use Rattle.rules.specs.declared.assessment.OpenMonth.{OpenMonth}
 use Rattle.settlement.specs.Runs.{room-for, BodySays}
 
-pub says : (a : Table) (m : OpenMonth) (room n : ℕ) (text : List ℕ) (said : Result (List Slot) BodyRefusal) → m ≡ open-month a → room ≡ n → n ≡ room-for (slotsIn (m .year) (m .month)) → Verdict (slotsIn (m .year) (m .month)) room text said → BodySays a text said
-says a m room n text said same whole count v =
-    subst (λ (k : OpenMonth). Verdict (slotsIn (k .year) (k .month)) (room-for (slotsIn (k .year) (k .month))) text said) same (subst (λ (r : ℕ). Verdict (slotsIn (m .year) (m .month)) r text said) (whole ∙ count) v)
+pub says : (m k : OpenMonth) (room n : ℕ) (text : List ℕ) (said : Result (List Slot) BodyRefusal) → m ≡ k → room ≡ n → n ≡ room-for (slotsIn (m .year) (m .month)) → Verdict (slotsIn (m .year) (m .month)) room text said → BodySays k text said
+says m k room n text said same whole count v =
+    subst (λ (o : OpenMonth). Verdict (slotsIn (o .year) (o .month)) (room-for (slotsIn (o .year) (o .month))) text said) same (subst (λ (r : ℕ). Verdict (slotsIn (m .year) (m .month)) r text said) (whole ∙ count) v)
+
+-- the front of a longer room is as long as it should be
+pub whole : (room : List Slot) (n : ℕ) → n ≤ 1488 → 1488 ≤ length room → length (take (n - 0) room) ≡ n
+whole room n few long = omega (arith, length-take (n - 0) room)

@@ -15,7 +15,10 @@ use Rattle.calendar.specs.Calendar.{slotsIn}
 use Rattle.records.specs.declared.slot.Slot.{Slot}
 use Rattle.records.specs.declared.body.BodyRefusal.{BodyRefusal}
 use Rattle.records.specs.Bodies.{Verdict}
+use Rattle.records.specs.Slots.{NoWorse}
+use Rattle.std.specs.shelf.Lists.{Each}
 use Rattle.records.specs.Contents.{ContentsVerdict}
+use Rattle.rules.specs.declared.assessment.OpenMonth.{OpenMonth}
 use Rattle.terms.specs.declared.contract.PricedTerms.{PricedTerms}
 use Rattle.terms.specs.declared.terms.Terms.{Terms}
 use Rattle.terms.specs.Price.{contractOf}
@@ -46,10 +49,10 @@ abbrev pub room-for : Option ℕ → ℕ
 room-for (Some n) = n
 room-for None = 0
 
--- what reading the body of the first unsettled month says
-abbrev pub BodySays : Table → List ℕ → Result (List Slot) BodyRefusal → Type 0
-BodySays a text said =
-    let count = slotsIn (open-month a .year) (open-month a .month) in
+-- what reading a body of a month says
+abbrev pub BodySays : OpenMonth → List ℕ → Result (List Slot) BodyRefusal → Type 0
+BodySays month text said =
+    let count = slotsIn (month .year) (month .month) in
     Verdict count (room-for count) text said
 
 -- bytes stand after the body of the last month
@@ -58,13 +61,13 @@ Trails a after = (open-month a .month ≡ 12) × (after ≡ true)
 
 -- the slots of the body are closed and settled, if nothing stands after the last body
 abbrev pub MonthSettled : Table → List ℕ → Bool → Result Settlement RunRefusal → Table → Type 0
-MonthSettled a text after (Ok s) b = (slots : List Slot) × (BodySays a text (Ok slots) × (Trails a after → ⊥) × ClosedAndSettled a slots (Ok s) b)
+MonthSettled a text after (Ok s) b = (slots : List Slot) × (BodySays (open-month a) text (Ok slots) × (Trails a after → ⊥) × ClosedAndSettled a slots (Ok s) b)
 MonthSettled a text after (Err (run.Terms e)) b = ⊥
 MonthSettled a text after (Err (run.Price e)) b = ⊥
 MonthSettled a text after (Err (run.Contents e)) b = ⊥
-MonthSettled a text after (Err (run.Body month e)) b = (month ≡ open-month a .month) × BodySays a text (Err e) × (b ≡ a)
-MonthSettled a text after (Err run.BytesAfter) b = (slots : List Slot) × (BodySays a text (Ok slots) × Trails a after × (b ≡ a))
-MonthSettled a text after (Err (run.Close month e)) b = (slots : List Slot) × ((month ≡ open-month a .month) × BodySays a text (Ok slots) × (Trails a after → ⊥) × ClosedAndSettled a slots (Err e) b)
+MonthSettled a text after (Err (run.Body month e)) b = (month ≡ open-month a .month) × BodySays (open-month a) text (Err e) × (b ≡ a)
+MonthSettled a text after (Err run.BytesAfter) b = (slots : List Slot) × (BodySays (open-month a) text (Ok slots) × Trails a after × (b ≡ a))
+MonthSettled a text after (Err (run.Close month e)) b = (slots : List Slot) × ((month ≡ open-month a .month) × BodySays (open-month a) text (Ok slots) × (Trails a after → ⊥) × ClosedAndSettled a slots (Err e) b)
 
 -- the month is settled, and the buffer begins with its statement line
 pub record SettledAndPrinted (a : Table) (text : List ℕ) (after : Bool) (old : List ℕ) (n : ℕ) (b : Table) (new : List ℕ) : Type 0 where
@@ -74,3 +77,11 @@ pub record SettledAndPrinted (a : Table) (text : List ℕ) (after : Bool) (old :
 
 abbrev pub LineSettled : Table → List ℕ → Bool → List ℕ → Result ℕ RunRefusal → Table → List ℕ → Type 0
 LineSettled a text after old r b new = Cases r (λ n. SettledAndPrinted a text after old n b new) (λ e. MonthSettled a text after (Err e) b × (new ≡ old))
+
+-- both texts are bodies of the month, and each slot of the better one is no worse than the one in its place
+pub record BetterBody (month : OpenMonth) (better worse : List ℕ) : Type 0 where
+  pub better-slots : List Slot
+  pub worse-slots : List Slot
+  pub better-read : BodySays month better (Ok better-slots)
+  pub worse-read : BodySays month worse (Ok worse-slots)
+  pub no-slot-worse : Each NoWorse better-slots worse-slots

@@ -13,10 +13,10 @@ use rules::assessment::OpenMonth;
 use yen::Settlement;
 
 // The slots of the longest month.
-const MOST_SLOTS: usize = 1488;
+pub(crate) const MOST_SLOTS: usize = 1488;
 
 // How many slots the month has, 0 if it is none.
-fn slots_of(open: &OpenMonth) -> usize
+pub(crate) fn slots_of(open: &OpenMonth) -> usize
     ensures value { λ r. ⌜ r ≡ room-for (slotsIn (now («open» .entry) .year) (now («open» .entry) .month)) ⌝ }
     ensures few { λ r. ⌜ r ≤ 1488 ⌝ }
 {

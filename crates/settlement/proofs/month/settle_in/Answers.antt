@@ -1,26 +1,19 @@
-use mathlib.Core.Path.{_≡_, refl, sym, ap, _∙_}
-use mathlib.Core.List.{List}
-use Prim.Native.Nat.{ℕ, _-_, _≤_}
-use native.Mathlib.Omega.{arith}
+use mathlib.Core.Path.{refl, sym, ap, _∙_}
 use borrow.Author.Needs.{needs}
-use lib.ListN.{length, take, length-take}
 use Rattle.std.specs.declared.result.Result.the-variants.{Ok, Err}
-use Rattle.records.specs.declared.slot.Slot.{Slot}
 use Rattle.rules.specs.declared.assessment.OpenMonth.{OpenMonth}
-use Rattle.settlement.proofs.Bodies.{says}
+use Rattle.book.specs.Calls.{open-month}
+use Rattle.settlement.proofs.Bodies.{says, whole}
 use Rattle.settlement.proofs.month.settle_in.Needs as need
 
 pub part-slots-end : need.part-slots-end
 part-slots-end c = search (needs, c .slots-of-count .ensures .few)
 
-whole : (room : List Slot) (n : ℕ) → n ≤ 1488 → 1488 ≤ length room → length (take (n - 0) room) ≡ n
-whole room n few long = omega (arith, length-take (n - 0) room)
-
 pub returns-then-bytes-after : need.returns-then-bytes-after
 returns-then-bytes-after c = (
   c .read-body .last .slots,
   (
-    says (c .args .book .now .table) (c .open-month-open .result) _ (c .slots-of-count .result) (c .args .body .now) (Ok (c .read-body .last .slots)) (c .open-month-open .ensures) (whole (c .args .room .now) (c .slots-of-count .result) (c .slots-of-count .ensures .few) (c .pre)) (c .slots-of-count .ensures .value) (c .in-Ok .ensures tt .verdict),
+    says (c .open-month-open .result) (open-month (c .args .book .now .table)) _ (c .slots-of-count .result) (c .args .body .now) (Ok (c .read-body .last .slots)) (c .open-month-open .ensures) (whole (c .args .room .now) (c .slots-of-count .result) (c .slots-of-count .ensures .few) (c .pre)) (c .slots-of-count .ensures .value) (c .in-Ok .ensures tt .verdict),
     (ap (λ (m : OpenMonth). m .month) (sym (c .open-month-open .ensures)) ∙ c .if-open-eq12 .taken, c .if-bytes-after .taken),
     refl,
   ),
@@ -29,6 +22,6 @@ returns-then-bytes-after c = (
 pub returns-in-Err : need.returns-in-Err
 returns-in-Err c = (
   ap (λ (m : OpenMonth). m .month) (c .open-month-open .ensures),
-  says (c .args .book .now .table) (c .open-month-open .result) _ (c .slots-of-count .result) (c .args .body .now) (Err (c .in-Err .refusal)) (c .open-month-open .ensures) (whole (c .args .room .now) (c .slots-of-count .result) (c .slots-of-count .ensures .few) (c .pre)) (c .slots-of-count .ensures .value) (c .in-Err .ensures tt .verdict),
+  says (c .open-month-open .result) (open-month (c .args .book .now .table)) _ (c .slots-of-count .result) (c .args .body .now) (Err (c .in-Err .refusal)) (c .open-month-open .ensures) (whole (c .args .room .now) (c .slots-of-count .result) (c .slots-of-count .ensures .few) (c .pre)) (c .slots-of-count .ensures .value) (c .in-Err .ensures tt .verdict),
   refl,
 )
