@@ -1,6 +1,6 @@
 use Prim.Native.Nat.{_-_, _≤_}
 use lib.ListN.{length}
-use Rattle.settle.proofs.source.fill_from.Given as given
+use Rattle.files.proofs.source.fill_from.Given as given
 
 abbrev pub Inv-loop-got : given.InvT-loop-got
 Inv-loop-got l = l .got ≤ length (l .entry .buf)
