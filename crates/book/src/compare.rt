@@ -1,18 +1,17 @@
 // Two books beside each other.
 ghost use mathlib.Core.Path.{_≡_};
-ghost use Rattle.book.specs.Comparing.{Compares};
+ghost use Prim.Native.Nat.{_≤_};
+ghost use lib.ListN.{length};
+ghost use Rattle.std.specs.shelf.Lists.{All};
+ghost use Rattle.book.specs.Comparing.{Compares, sums-of};
 ghost use Rattle.book.specs.History.{HasHistory};
+ghost use Rattle.book.specs.Limits.{Modest};
 ghost use Rattle.book.specs.Promise.{NoBetterKeptYearCostsMore};
 use crate::book::Book;
 use crate::comparison::Comparison;
 use crate::comparison::Sums;
 use crate::line::Line;
 use crate::sums::totals_of;
-ghost use Prim.Native.Nat.{_≤_};
-ghost use lib.ListN.{length};
-ghost use Rattle.std.specs.shelf.Lists.{All};
-ghost use Rattle.book.specs.Limits.{Modest};
-ghost use Rattle.book.specs.Comparing.{sums-of};
 
 fn sums_of(lines: &[Line]) -> Sums
     requires year { ⌜ length (now lines) ≤ 12 ⌝ }

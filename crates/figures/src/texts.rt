@@ -173,7 +173,7 @@ fn show_bodies(rt: &LibcRuntime) -> Result<(), AnyError> {
     february(rt, "a damaged line too many", LINE, "x")
 }
 
-pub fn show(rt: &LibcRuntime) -> Result<(), AnyError> {
+pub(crate) fn show(rt: &LibcRuntime) -> Result<(), AnyError> {
     show_terms(rt)?;
     show_contents(rt)?;
     show_bodies(rt)

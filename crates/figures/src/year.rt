@@ -13,7 +13,7 @@ const LONGEST: &str = "2000000 2000000 2000000 1000000 uLDE\n";
 
 const DAYS: [usize; 12] = [30, 31, 30, 31, 31, 30, 31, 30, 31, 31, 29, 31];
 
-pub fn show(rt: &LibcRuntime) -> Result<(), AnyError> {
+pub(crate) fn show(rt: &LibcRuntime) -> Result<(), AnyError> {
     let heap = rt.alloc();
     let mut contents = String::new(heap);
     let mut at = 252usize;

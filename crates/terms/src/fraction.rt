@@ -13,7 +13,7 @@ impl Fraction {
     pub const ONE: Fraction = Fraction { num: 1, den: 1 };
 
     // `n` times the fraction.
-    pub fn of(n: u32, f: Fraction) -> Fraction
+    pub(crate) fn of(n: u32, f: Fraction) -> Fraction
         requires { ⌜ n * f .num < 2 ^ 128 ⌝ }
         ensures { λ r. ⌜ r ≡ of n f ⌝ }
     {
@@ -23,7 +23,7 @@ impl Fraction {
         }
     }
 
-    pub fn times(self, other: Fraction) -> Fraction
+    pub(crate) fn times(self, other: Fraction) -> Fraction
         requires { ⌜ self .num * other .num < 2 ^ 128 ⌝ ∗ ⌜ self .den * other .den < 2 ^ 128 ⌝ }
         ensures { λ r. ⌜ r ≡ times self other ⌝ }
     {
@@ -33,7 +33,7 @@ impl Fraction {
         }
     }
 
-    pub fn plus(self, other: Fraction) -> Fraction
+    pub(crate) fn plus(self, other: Fraction) -> Fraction
         requires { ⌜ self .num * other .den + other .num * self .den < 2 ^ 128 ⌝ ∗ ⌜ self .den * other .den < 2 ^ 128 ⌝ }
         ensures { λ r. ⌜ r ≡ plus self other ⌝ }
     {

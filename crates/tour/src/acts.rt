@@ -10,14 +10,14 @@ use yen::Settlement;
 
 // How an objection ended.
 #[derive(Clone, Copy)]
-pub enum Objection {
+pub(crate) enum Objection {
     Accepted,
     // refused, and the notice settled after all
     Refused(ObjectRefusal, Settlement),
 }
 
 // Closes a month by one rule in all three places, and objects to the notice.
-pub fn close_and_object<R: Rule>(
+pub(crate) fn close_and_object<R: Rule>(
     book: &mut Book,
     slots: &[Slot],
     rule: &R,
@@ -35,7 +35,7 @@ pub fn close_and_object<R: Rule>(
 
 // Closes a month of the second book and offers its notice to the first one, which has another plant and hands it back.
 // `None` where both have one plant or the month cannot be closed.
-pub fn offer_foreign(
+pub(crate) fn offer_foreign(
     first: &mut Book,
     second: &mut Book,
     slots: &[Slot],
@@ -57,7 +57,7 @@ pub fn offer_foreign(
 }
 
 // Closes a month twice: the second close is refused, since the notice of the first is out.
-pub fn close_twice(
+pub(crate) fn close_twice(
     book: &mut Book,
     slots: &[Slot],
 ) -> Result<(CloseRefusal, Settlement), CloseRefusal> {

@@ -27,7 +27,7 @@ fn april(rt: &LibcRuntime, act: &str, text: &[u8], slots: &mut [Slot]) -> io::Re
     }
 }
 
-pub fn show(rt: &LibcRuntime, slots: &mut [Slot]) -> io::Result<()> {
+pub(crate) fn show(rt: &LibcRuntime, slots: &mut [Slot]) -> io::Result<()> {
     terms(rt, "terms with no plant", b"\n")?;
     terms(rt, "terms of another year", b"1\n2024\n")?;
     contents(

@@ -4,9 +4,9 @@ use records::slot::Slot;
 use rules::rule::Rule;
 
 #[derive(Clone, Copy)]
-pub struct LowReserveRule;
+pub(crate) struct LowReserveRule;
 
-pub impl Rule for LowReserveRule as LowReserveRuleRule {
+pub(crate) impl Rule for LowReserveRule as LowReserveRuleRule {
     const NUMBER: u8 = 7;
 
     ghost numberOf = { 7 };
