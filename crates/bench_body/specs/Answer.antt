@@ -5,10 +5,10 @@ use Prim.Native.Nat.{ℕ}
 use Rattle.std.specs.declared.result.Result.{Result}
 use Rattle.std.specs.declared.result.Result.the-variants.{Ok, Err}
 use Rattle.calendar.specs.Calendar.{slotsIn}
-use Rattle.records.specs.declared.body.BodyRefusal.{BodyRefusal}
+use Rattle.year_file.specs.declared.body.BodyRefusal.{BodyRefusal}
 use Rattle.records.specs.declared.slot.Slot.{Slot}
-use Rattle.records.specs.Bodies.{Verdict}
-use Rattle.records.specs.Refusals.{bodyRefusal}
+use Rattle.year_file.specs.Bodies.{Verdict}
+use Rattle.year_file.specs.Refusals.{bodyRefusal}
 
 abbrev pub number-of : Result (List Slot) BodyRefusal → ℕ
 number-of (Ok slots) = 0

@@ -1,7 +1,7 @@
 // The body reader, for a benchmark in another language to link.
 ghost use Rattle.bench_body.specs.Answer.{Answered};
-use records::body::read_body;
 use records::slot::Slot;
+use year_file::body::read_body;
 
 const MAY_SLOTS: usize = 1488;
 

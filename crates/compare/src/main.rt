@@ -13,7 +13,6 @@ use files::folder::BODY_BYTES;
 use files::folder::open_file;
 use files::folder::start_run;
 use files::source::Source;
-use records::contents::Contents;
 use settlement::better::is_better_kept;
 use settlement::lines::LINE_BYTES;
 use settlement::lines::settle_line;
@@ -21,6 +20,7 @@ use settlement::lines::totals_line;
 use settlement::run::Run;
 use std::env;
 use std::error::AnyError;
+use year_file::contents::Contents;
 
 // A year that is being settled, and the bodies of its months.
 #[derive(Drop)]

@@ -1,6 +1,4 @@
 // A table of texts, good and damaged, each with the answer of its reader.
-use records::body::read_body;
-use records::contents::read_contents;
 use records::slot::Slot;
 use refusal::Refusal;
 use std::alloc::AllocError;
@@ -8,6 +6,8 @@ use std::alloc::Global;
 use std::error::AnyError;
 use std::io;
 use terms_file::reading::read_terms;
+use year_file::body::read_body;
+use year_file::contents::read_contents;
 
 const LINE: &str = "100 100 0 50 ----\n";
 

@@ -1,5 +1,0 @@
-pub mod Words
-pub mod Lines
-pub mod Bodies
-pub mod Columns
-pub mod Entries

@@ -1,5 +1,1 @@
 pub mod Slots
-pub mod Lines
-pub mod Bodies
-pub mod Contents
-pub mod Refusals

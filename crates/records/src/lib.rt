@@ -1,5 +1,3 @@
-// The half-hour records of a plant, and the file that holds them.
-pub mod body;
-pub mod contents;
+// The half-hour records of a plant.
 pub mod order;
 pub mod slot;

@@ -9,13 +9,13 @@ use files::folder::BODY_BYTES;
 use files::folder::open_file;
 use files::folder::start_run;
 use files::source::Source;
-use records::contents::Span;
 use settlement::lines::LINE_BYTES;
 use settlement::lines::settle_line;
 use settlement::lines::totals_line;
 use settlement::run::Run;
 use std::env;
 use std::error::AnyError;
+use year_file::contents::Span;
 
 // Settles the next month from the body that follows, which is read into the start of `room`.
 fn settle_next(

@@ -6,9 +6,9 @@ use native.Mathlib.Omega.{arith}
 use lib.ListN.{length, take, length-take}
 use Rattle.std.specs.declared.result.Result.{Result}
 use Rattle.calendar.specs.Calendar.{slotsIn}
-use Rattle.records.specs.declared.body.BodyRefusal.{BodyRefusal}
+use Rattle.year_file.specs.declared.body.BodyRefusal.{BodyRefusal}
 use Rattle.records.specs.declared.slot.Slot.{Slot}
-use Rattle.records.specs.Bodies.{Verdict}
+use Rattle.year_file.specs.Bodies.{Verdict}
 use Rattle.rules.specs.declared.assessment.OpenMonth.{OpenMonth}
 use Rattle.settlement.specs.Runs.{room-for, BodySays}
 

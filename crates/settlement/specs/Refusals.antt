@@ -2,7 +2,7 @@
 use Prim.Native.Nat.{ℕ}
 use Rattle.refusal.specs.declared.Refusal.{Refusal}
 use Rattle.book.specs.Refusals.{of-close}
-use Rattle.records.specs.Refusals.{bodyRefusal, contentsRefusal}
+use Rattle.year_file.specs.Refusals.{bodyRefusal, contentsRefusal}
 use Rattle.terms.specs.Refusals.{priceRefusal}
 use Rattle.terms_file.specs.Refusals.{termsRefusal}
 use Rattle.settlement.specs.declared.refused.RunRefusal.{RunRefusal}

@@ -13,11 +13,11 @@ use Rattle.book.specs.Calls.{Opened, open-month, Prints}
 use Rattle.book.specs.History.{ClosedAndSettled}
 use Rattle.calendar.specs.Calendar.{slotsIn}
 use Rattle.records.specs.declared.slot.Slot.{Slot}
-use Rattle.records.specs.declared.body.BodyRefusal.{BodyRefusal}
-use Rattle.records.specs.Bodies.{Verdict}
+use Rattle.year_file.specs.declared.body.BodyRefusal.{BodyRefusal}
+use Rattle.year_file.specs.Bodies.{Verdict}
 use Rattle.records.specs.Slots.{NoWorse}
 use Rattle.std.specs.shelf.Lists.{Each}
-use Rattle.records.specs.Contents.{ContentsVerdict}
+use Rattle.year_file.specs.Contents.{ContentsVerdict}
 use Rattle.rules.specs.declared.assessment.OpenMonth.{OpenMonth}
 use Rattle.terms.specs.declared.contract.PricedTerms.{PricedTerms}
 use Rattle.terms.specs.declared.terms.Terms.{Terms}

@@ -5,10 +5,10 @@ ghost use Rattle.std.specs.Orderings.{Decides};
 ghost use Rattle.settlement.specs.Runs.{BetterBody};
 use crate::month::MOST_SLOTS;
 use crate::month::slots_of;
-use records::body::read_body;
 use records::order::are_no_worse;
 use records::slot::Slot;
 use rules::assessment::OpenMonth;
+use year_file::body::read_body;
 
 // The same, with room for the slots of both.
 fn is_better_in(

@@ -3,10 +3,10 @@ ghost use mathlib.Core.Path.{_≡_};
 ghost use Rattle.settlement.specs.Refusals.{run-refusal, run-month};
 ghost use Rattle.settlement.specs.declared.refused.RunRefusal.the-variants.{Terms, Price, Contents};
 use crate::refused::RunRefusal;
-use records::contents::ContentsRefusal;
 use refusal::Refusal;
 use terms::refusals::PriceRefusal;
 use terms_file::refusals::TermsRefusal;
+use year_file::contents::ContentsRefusal;
 
 impl RunRefusal {
     pub fn refusal(&self) -> Refusal

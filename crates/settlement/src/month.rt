@@ -7,9 +7,9 @@ ghost use Rattle.settlement.specs.Runs.{MonthSettled, room-for};
 use crate::refused::RunRefusal;
 use book::book::Book;
 use calendar::slots_in;
-use records::body::read_body;
 use records::slot::Slot;
 use rules::assessment::OpenMonth;
+use year_file::body::read_body;
 use yen::Settlement;
 
 // The slots of the longest month.

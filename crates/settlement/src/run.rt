@@ -1,6 +1,6 @@
 // A run under way.
 use book::book::Book;
-use records::contents::Contents;
+use year_file::contents::Contents;
 
 // The book that is being settled, and where the bodies of its months stand.
 #[derive(Drop)]

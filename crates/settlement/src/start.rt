@@ -6,9 +6,9 @@ use crate::fault::RunRefusalFromTerms;
 use crate::refused::RunRefusal;
 use crate::run::Run;
 use book::book::Book;
-use records::contents::read_contents;
 use terms::pricing::price;
 use terms_file::reading::read_terms;
+use year_file::contents::read_contents;
 
 // Reads the terms, prices them, reads the contents at the start of the year's text, and opens a book.
 pub fn start(terms: &[u8], year: &[u8]) -> Result<Run, RunRefusal>

@@ -1,10 +1,10 @@
 // Texts that the readers refuse.
 use crate::telling::refused;
-use records::body::read_body;
-use records::contents::read_contents;
 use records::slot::Slot;
 use std::io;
 use terms_file::reading::read_terms;
+use year_file::body::read_body;
+use year_file::contents::read_contents;
 
 fn terms(rt: &LibcRuntime, act: &str, text: &[u8]) -> io::Result<()> {
     match read_terms(text) {
