@@ -1,16 +1,16 @@
 -- Sums over lines, one line after the other.
-use mathlib.Core.Path.{_≡_, refl, ap, _∙_}
-use mathlib.Core.List.{List, [], _∷_}
-use Prim.Native.Nat.{ℕ, _+_, _*_, _≤_, _<_}
+use mathlib.Core.Path.{_≡_}
+use mathlib.Core.List.{List}
+use Prim.Native.Nat.{ℕ, _+_, _≤_, _<_}
 use native.Mathlib.Omega.{arith}
 use lib.IntN.{ℤ, pos, _+ℤ_}
-use lib.ListN.{length, getD, take}
+use lib.ListN.{length, take}
 use Rattle.std.proofs.shelf.Lists.{length-take-le}
 use Rattle.std.proofs.shelf.Signed.{ints}
 use Rattle.std.proofs.shelf.Sums.{folded-more, sumBy-more}
 use Rattle.book.specs.declared.line.Line.{Line}
 use Rattle.book.specs.declared.line.Totals.{Totals}
-use Rattle.book.specs.Lines.{empty, line-at, charged-in, net-in, outage-units-in, totals-of}
+use Rattle.book.specs.Lines.{empty, line-at, totals-of}
 use Rattle.book.specs.Limits.{Modest, Few}
 
 -- the totals with one line more

@@ -1,9 +1,9 @@
 -- What a table that has a history keeps, and how its history goes on.
-use mathlib.Core.Path.{_≡_, refl, sym, ap, subst, _∙_}
+use mathlib.Core.Path.{_≡_, refl, sym, subst}
 use mathlib.Core.Bool.{true}
-use mathlib.Core.List.{List, [], _∷_, _++_}
+use mathlib.Core.List.{List, [], _∷_}
 use mathlib.Core.Logic.{∥∥₁-elim, ∥∥₁-map}
-use Prim.Native.Nat.{ℕ, suc, _+_, _-_, _≤_, _<_}
+use Prim.Native.Nat.{ℕ, _+_, _-_, _≤_, _<_}
 use native.Mathlib.Bridge.{le-prop}
 use native.Mathlib.Omega.{arith}
 use lib.Dec.{T-prop}
@@ -26,9 +26,9 @@ use Rattle.book.specs.declared.table.Table.{Table}
 use Rattle.book.specs.Lines.{empty, line-at}
 use Rattle.book.specs.Limits.{Modest}
 use Rattle.book.specs.Calls.{Opened, shown}
-use Rattle.book.specs.History.{Call, Step, Led, opened, called, HasHistory}
-use Rattle.book.specs.Standing.{events, Month, standing, pending, month-units-of, carried, standing-line, Stands}
-use Rattle.book.proofs.Kept.{SoundMonth, Kept, kept, shown-months}
+use Rattle.book.specs.History.{Call, Step, opened, called, HasHistory}
+use Rattle.book.specs.Standing.{Month, month-units-of, carried, standing-line, Stands}
+use Rattle.book.proofs.Kept.{SoundMonth, kept, shown-months}
 
 pub begun : {t : PricedTerms} {a : Table} → Opened t a → HasHistory a
 begun {t} o = ∣ (t, [], opened o) ∣₁

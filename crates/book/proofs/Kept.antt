@@ -3,11 +3,11 @@ use mathlib.Core.Path.{_≡_, refl, sym, ap, subst, _∙_}
 use mathlib.Core.Bool.{Bool, true, false, cond}
 use mathlib.Core.List.{List, [], _∷_}
 use mathlib.Core.Logic.{_≢_}
-use Prim.Native.Nat.{ℕ, zero, suc, _+_, _-_, _*_, _≤_, _<_}
+use Prim.Native.Nat.{ℕ, zero, suc, _+_, _≤_, _<_}
 use native.Mathlib.Numerals.{add-one}
 use native.Mathlib.Omega.{arith}
 use lib.IntN.{ℤ, pos, negsuc, _-ℤ_, negℤ}
-use lib.ListN.{length, getD, set, take, length-set}
+use lib.ListN.{length, set, take, length-set}
 use lib.Seq.{getD-set-same, getD-set-other}
 use Rattle.std.specs.shelf.Lists.{All}
 use Rattle.std.specs.declared.result.Result.the-variants.{Ok, Err}
@@ -21,17 +21,16 @@ use Rattle.rules.specs.Months.{RuleOf, numbers-of, units-of}
 use Rattle.rules.proofs.Slots.{few, within}
 use Rattle.terms.specs.declared.contract.PricedTerms.{PricedTerms}
 use Rattle.terms.specs.declared.figures.Contract.{Contract}
-use Rattle.yen.specs.declared.Before.{Before}
 use Rattle.yen.specs.declared.Settlement.{Settlement}
 use Rattle.yen.specs.declared.Settlement.the-variants.{Payment, Claim, Neither}
-use Rattle.yen.specs.Yen.{amount-of, yen-of, settlement-of}
+use Rattle.yen.specs.Yen.{settlement-of}
 use Rattle.book.specs.declared.line.Line.{Line}
 use Rattle.book.specs.declared.table.Notice.{Notice}
 use Rattle.book.specs.declared.table.Table.{Table}
 use Rattle.book.specs.Lines.{empty, line-at, before-of, line-of}
 use Rattle.book.specs.Calls.{Opened, settled-lines, shown, next-line, LawfulRules, Closes, Settles, Objects}
 use Rattle.book.specs.History.{Call, closing, settling, objecting, reading-line, reading-totals, printing-line, Step, Led, opened, called}
-use Rattle.book.specs.Standing.{Event, closed, settled, objected, events, last-slots, last-rules, objections, Month, pending, standing, paid, claimed, month-units-of, carried, standing-line, Stands, amounts-in}
+use Rattle.book.specs.Standing.{Event, closed, settled, objected, events, objections, Month, pending, standing, paid, claimed, carried, standing-line, Stands, amounts-in}
 
 -- a month that was closed by lawful rules on slots within their limits
 pub record SoundMonth (m : Month) : Type 0 where

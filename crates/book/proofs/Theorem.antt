@@ -1,16 +1,14 @@
 -- What holds of any two books.
 use mathlib.Core.Path.{_≡_, refl, sym, ap, subst, _∙_}
-use mathlib.Core.Bool.{Bool, true, false, cond}
-use mathlib.Core.List.{List, [], _∷_, _++_, reverse, reverse-cons}
+use mathlib.Core.List.{List, [], _∷_, reverse, reverse-cons}
 use mathlib.Core.Logic.{_⊎_, inl, inr}
-use Prim.Native.Nat.{ℕ, zero, suc, _+_, _-_, _*_, _/_, _≤_, _<_, min}
+use Prim.Native.Nat.{ℕ, zero, suc, _+_, _≤_, _<_}
 use native.Mathlib.Decide.{decLt}
 use native.Mathlib.Nat.{div-mul-le-self}
 use native.Mathlib.Numerals.{add-one}
 use native.Mathlib.Omega.{arith}
-use lib.IntN.{ℤ, pos, _-ℤ_, _+ℤ_}
+use lib.IntN.{ℤ, pos, _+ℤ_}
 use lib.ListN.{length, getD, take, length-reverse}
-use lib.Signed.{_≤ℤ_}
 use Rattle.std.specs.shelf.Lists.{All}
 use Rattle.std.proofs.shelf.Lists.{getD-append-left, getD-push, take-all}
 use Rattle.std.proofs.shelf.Signed.{ints}
@@ -21,15 +19,14 @@ use Rattle.terms.specs.declared.contract.PricedTerms.{PricedTerms}
 use Rattle.terms.specs.declared.figures.Contract.{Contract}
 use Rattle.terms.proofs.Priced as priced
 use Rattle.yen.specs.declared.Before.{Before}
-use Rattle.yen.specs.Yen.{amount-of, outage-penalty, shortfall-penalty, month-cap, year-cap}
+use Rattle.yen.specs.Yen.{month-cap, year-cap}
 use Rattle.yen.proofs.Limits.{outage-less, shortfall-less}
 use Rattle.book.specs.declared.line.Line.{Line}
 use Rattle.book.specs.declared.table.Table.{Table}
 use Rattle.book.specs.Lines.{empty, line-at, charged-in, net-in, outage-units-in, before-of, line-of}
-use Rattle.book.specs.Calls.{shown}
-use Rattle.book.specs.History.{Call, Led}
-use Rattle.book.specs.Standing.{Event, events, Month, pending, standing, month-units-of, carried, standing-line, Stands, amounts-in, paid, claimed}
-use Rattle.book.specs.Promise.{BetterKept, no-month, month-at, BetterKeptUpTo, OneBook, TwoBooks, NoBetterKeptYearCostsMore}
+use Rattle.book.specs.History.{Call}
+use Rattle.book.specs.Standing.{events, Month, standing, month-units-of, carried, Stands, amounts-in}
+use Rattle.book.specs.Promise.{no-month, month-at, BetterKeptUpTo, OneBook, TwoBooks, NoBetterKeptYearCostsMore}
 use Rattle.book.proofs.Kept.{SoundMonth, Kept, kept, carried-is, within-lines, shown-months}
 
 -- ---- months by their place

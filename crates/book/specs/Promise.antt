@@ -1,13 +1,12 @@
 -- The promise of a book: what holds of any two books on the same terms, after any calls.
 use mathlib.Core.Path.{_≡_}
-use mathlib.Core.List.{List, [], _∷_, reverse}
+use mathlib.Core.List.{List, [], reverse}
 use Prim.Native.Nat.{ℕ, _+_, _≤_, _<_}
 use lib.ListN.{length, getD, take}
 use lib.Signed.{_≤ℤ_}
 use Rattle.std.specs.shelf.Lists.{Each}
 use Rattle.records.specs.declared.slot.Slot.{Slot}
 use Rattle.records.specs.Slots.{Within, NoWorse}
-use Rattle.rules.specs.declared.assessment.PerRule.{PerRule}
 use Rattle.rules.specs.Months.{RuleOf}
 use Rattle.terms.specs.declared.contract.PricedTerms.{PricedTerms}
 use Rattle.yen.specs.Yen.{month-cap, year-cap}

@@ -1,7 +1,4 @@
 // The files of a folder.
-ghost use Prim.Native.Nat.{_≤_};
-ghost use lib.ListN.{length};
-ghost use Rattle.std.specs.Results.{Cases};
 use crate::ended::Ended;
 use crate::ended::EndedFromAlloc;
 use crate::ended::EndedFromIo;

@@ -1,6 +1,6 @@
 -- The units that each standard rule gives a slot, at the assessed capacity.
 use Prim.Native.Nat.{ℕ, _-_, _*_, min}
-use mathlib.Core.Bool.{Bool, true, false, cond, _&&_}
+use mathlib.Core.Bool.{Bool, true, false, cond}
 use Rattle.records.specs.declared.slot.Slot.{Slot}
 use Rattle.records.specs.declared.slot.Outage.{Outage}
 use Rattle.records.specs.declared.slot.Outage.the-variants.{NoOutage, PlannedStop, UnplannedStop, PlannedSuppression, UnplannedSuppression}

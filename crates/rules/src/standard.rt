@@ -1,6 +1,4 @@
 // What each of the standard rules gives a slot.
-ghost use mathlib.Core.Path.{_≡_};
-ghost use Rattle.records.specs.Slots.{Within};
 ghost use Rattle.rules.specs.Standard.{outage-units, market-units, dispatch-units};
 use crate::assessed::DispatchRule;
 use crate::assessed::MarketRule;

@@ -1,5 +1,4 @@
 // Statement lines of a run.
-ghost use mathlib.Core.Path.{_≡_};
 ghost use Rattle.book.specs.Calls.{Prints};
 ghost use Rattle.settlement.specs.Runs.{LineSettled};
 use crate::month::settle_month;

@@ -7,7 +7,6 @@ use lib.IntN.{ℤ, pos, negsuc, _-ℤ_}
 use Rattle.std.specs.declared.result.Result.{Result}
 use Rattle.std.specs.declared.result.Result.the-variants.{Ok, Err}
 use Rattle.records.specs.declared.slot.Slot.{Slot}
-use Rattle.records.specs.declared.slot.Outage.{Outage}
 use Rattle.records.specs.declared.slot.Outage.the-variants.{NoOutage, UnplannedSuppression}
 use Rattle.rules.specs.declared.assessment.PerRule.{PerRule}
 use Rattle.rules.specs.Standard.{outage-units, market-units, dispatch-units}

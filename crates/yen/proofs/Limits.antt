@@ -1,13 +1,12 @@
 -- How large the yen of a sound contract can get.
-use mathlib.Core.Bool.{Bool, true, false, cond}
-use Prim.Native.Nat.{ℕ, _+_, _-_, _*_, _/_, _≤_, _<_, min}
+use Prim.Native.Nat.{ℕ, _*_, _/_, _≤_, _<_}
 use native.Mathlib.Nat.{div-le-of-le-mul, div-mul-le-self, mul-le-mul-left}
 use native.Mathlib.Omega.{arith}
 use Rattle.std.proofs.shelf.Bits.{le-div, mul-le, mul-lt}
 use Rattle.rules.specs.declared.assessment.PerRule.{PerRule}
 use Rattle.terms.specs.declared.figures.Contract.{Contract}
 use Rattle.terms.specs.Sound.{Sound}
-use Rattle.yen.specs.Yen.{amount-of, excess, outage-penalty, shortfall-penalty, month-cap, year-cap, charge, penalties-of}
+use Rattle.yen.specs.Yen.{amount-of, excess, outage-penalty, shortfall-penalty, charge}
 
 module _ (c : Contract) (s : Sound c) where
   by-capacity : c .amount ≤ 1000000 * c .capacity

@@ -3,7 +3,7 @@ ghost use mathlib.Core.Path.{_≡_};
 ghost use Prim.Native.Nat.{_+_, _≤_};
 ghost use lib.IntN.{pos, _-ℤ_};
 ghost use Rattle.terms.specs.Sound.{Sound};
-ghost use Rattle.yen.specs.Yen.{amount-of, excess, outage-penalty, shortfall-penalty, month-cap, year-cap, charge, yen-of, settlement-of};
+ghost use Rattle.yen.specs.Yen.{amount-of, excess, outage-penalty, shortfall-penalty, charge, yen-of, settlement-of};
 use rules::assessment::Assessment;
 use rules::assessment::PerRule;
 use rules::assessment::PerRuleDebug;

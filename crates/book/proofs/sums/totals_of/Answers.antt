@@ -1,8 +1,7 @@
-use mathlib.Core.Path.{_≡_, sym, ap, subst, _∙_}
+use mathlib.Core.Path.{sym, ap, subst, _∙_}
 use native.Mathlib.Omega.{arith}
 use lib.Seq.{take-all}
 use Rattle.std.proofs.shelf.Elements.{all-getD}
-use Rattle.book.specs.declared.line.Totals.{Totals}
 use Rattle.book.specs.Lines.{empty, line-at, totals-of}
 use Rattle.book.specs.Limits.{Modest, Few}
 use Rattle.book.proofs.Adding.{with, totals-more, few-more, few-up}

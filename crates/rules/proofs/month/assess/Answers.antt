@@ -1,4 +1,3 @@
-use borrow.Author.Needs.{needs}
 use Rattle.rules.proofs.Slots.{few, within}
 use Rattle.rules.proofs.month.assess.Needs as need
 

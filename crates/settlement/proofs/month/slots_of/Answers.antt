@@ -1,5 +1,4 @@
 use mathlib.Core.Path.{sym, ap}
-use native.Mathlib.Omega.{arith}
 use Rattle.calendar.proofs.Slots.{slots-upto}
 use Rattle.settlement.specs.Runs.{room-for}
 use Rattle.settlement.proofs.month.slots_of.Needs as need

@@ -1,5 +1,4 @@
 use native.Mathlib.Omega.{arith}
-use borrow.Author.Needs.{needs}
 use Rattle.text.proofs.Joins.{whole}
 use Rattle.statement.proofs.Short.{text-short}
 use Rattle.statement.proofs.print.print_statement.Needs as need

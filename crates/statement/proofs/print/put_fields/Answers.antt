@@ -6,7 +6,7 @@ use lib.ListN.{length, getD, take, drop}
 use Rattle.std.specs.shelf.Lists.{joined}
 use Rattle.std.specs.declared.option.Option.{Option}
 use Rattle.std.specs.declared.option.Option.the-variants.{Some, None}
-use Rattle.std.proofs.shelf.Lists.{joined-more, take-all, take-more, take-append-drop}
+use Rattle.std.proofs.shelf.Lists.{joined-more, take-all, take-more}
 use Rattle.text.proofs.Joins.{nothing}
 use Rattle.statement.specs.Text.{field, Begun}
 use Rattle.statement.proofs.Chains.{stop, then}

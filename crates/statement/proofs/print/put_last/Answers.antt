@@ -1,5 +1,5 @@
 use mathlib.Core.List.{[], _∷_}
-use mathlib.Core.Path.{_≡_, ap, subst}
+use mathlib.Core.Path.{subst}
 use Prim.Native.Nat.{_+_, _<_}
 use lib.IntN.{ℤ}
 use lib.ListN.{length}

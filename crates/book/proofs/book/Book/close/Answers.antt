@@ -1,4 +1,4 @@
-use mathlib.Core.Path.{_≡_, subst, ap}
+use mathlib.Core.Path.{subst, ap}
 use Prim.Native.Nat.{ℕ}
 use Rattle.terms.specs.declared.figures.Contract.{Contract}
 use Rattle.book.specs.Calls.{standard-rules, Closed}

@@ -3,7 +3,7 @@ use mathlib.Core.Bool.{true}
 use Rattle.std.proofs.shelf.Results.{err-from-errBy}
 use Rattle.std.specs.declared.result.Result.the-variants.{Ok}
 use Rattle.rules.specs.declared.assessment.PerRule.{PerRule}
-use Rattle.rules.specs.Months.{RuleOf, Lawful}
+use Rattle.rules.specs.Months.{RuleOf}
 use Rattle.book.specs.Calls.{notice-of, with-line, LawfulRules, Closed}
 use Rattle.book.specs.History.{closing}
 use Rattle.book.proofs.Closing.{refused-by, closes-by}
