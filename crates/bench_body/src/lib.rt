@@ -1,4 +1,5 @@
 // The body reader, for a benchmark in another language to link.
+#![tactic(auto)]
 ghost use Rattle.bench_body.specs.Answer.{Answered};
 
 use records::slot::Slot;

@@ -1,4 +1,5 @@
 // The settlement book of one plant for one contract year.
+#![tactic(auto)]
 pub mod book;
 pub mod compare;
 pub mod comparison;

@@ -1,4 +1,5 @@
 // The calendar of fiscal years: the first day of each month, and the slots of a month.
+#![tactic(auto)]
 mod table;
 
 ghost use Rattle.std.specs.Prelude.{◌≡◌};

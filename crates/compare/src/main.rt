@@ -1,4 +1,5 @@
 // Settles two years of one plant on the same terms, `year.txt` and `other.txt` of a folder, and compares them.
+#![tactic(auto)]
 ghost use Rattle.std.specs.Prelude.{◌≤◌, length, IfOk};
 
 use book::book::Book;

@@ -1,4 +1,5 @@
 // Worked figures, executed: each line has what was asked and what came.
+#![tactic(auto)]
 mod texts;
 mod year;
 

@@ -1,4 +1,5 @@
 // What a refused call tells its caller.
+#![tactic(auto)]
 
 // The number of the refusal, and the place that it speaks of: a line, a month or a slot, or 0 where it names none.
 #[derive(Clone, Copy, Debug, PartialEq, Eq)]

@@ -1,4 +1,5 @@
 // Settles the contract year of a folder: the one that the first argument names, or the current one.
+#![tactic(auto)]
 use book::book::Book;
 use files::ended::{Ended, refused, status, write_line};
 use files::folder::{BODY_BYTES, open_file, start_run};

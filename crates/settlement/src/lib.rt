@@ -1,4 +1,5 @@
 // A contract year settled from its two texts, month by month.
+#![tactic(auto)]
 pub mod better;
 pub mod fault;
 pub mod lines;

@@ -1,4 +1,5 @@
 // Text files: numbers read from and written into lent bytes, and the shape that the files share.
+#![tactic(auto)]
 mod reading;
 mod writing;
 

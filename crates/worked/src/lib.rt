@@ -1,4 +1,5 @@
 // Worked figures of the contract terms, which the checker computes from the definitions.
+#![tactic(auto)]
 ghost use Rattle.std.specs.Prelude.{◌≡◌, length};
 ghost use Rattle.std.specs.List.{AllByRecursion as All};
 ghost use Rattle.worked.specs.Cases.{Holds, cases};
