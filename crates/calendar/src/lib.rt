@@ -1,5 +1,6 @@
 // The calendar of fiscal years: the first day of each month, and the slots of a month.
 #![tactic(auto)]
+
 mod table;
 
 ghost use Rattle.std.specs.Prelude.{◌≡◌};

@@ -1,4 +1,5 @@
 // The half-hour records of a plant.
 #![tactic(auto)]
+
 pub mod order;
 pub mod slot;

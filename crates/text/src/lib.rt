@@ -1,5 +1,6 @@
 // Text files: numbers read from and written into lent bytes, and the shape that the files share.
 #![tactic(auto)]
+
 mod reading;
 mod writing;
 

@@ -26,23 +26,23 @@ made c d month before units same a o m k ch n = rw (n, ch, o, m, k, a, same)
 at_contract : (t : PricedTerms) (c : Contract) → c ≡ t.contract → Sound c
 at_contract t c e = subst Sound (sym e) (sound t)
 
-pub charged-of-charged-requires : goal.charged-of-charged-requires
-charged-of-charged-requires c =
+pub charged_of-charged-requires : goal.charged_of-charged-requires
+charged_of-charged-requires c =
     let t = c.contract-contract.result in
     let s = at_contract c.args.terms.now t c.contract-contract.ensures in
     let u = c.args.assessment.now in
     record {
       sound = s;
-      limit = omega (arith, c.outage-penalty-of.ensures, c.shortfall-penalty-of.ensures, c.shortfall-penalty-of-2.ensures, outage_limit t s c.args.before.now.outage_units u.units.outage u.limits.0, shortfall_limit t s u.units.market u.limits.1, shortfall_limit t s u.units.dispatch u.limits.2);
+      limit = omega (arith, c.outage_penalty_of.ensures, c.shortfall_penalty_of.ensures, c.shortfall_penalty_of-2.ensures, outage_limit t s c.args.before.now.outage_units u.units.outage u.limits.0, shortfall_limit t s u.units.market u.limits.1, shortfall_limit t s u.units.dispatch u.limits.2);
     }
 
-pub net-of-requires : goal.net-of-requires
-net-of-requires c =
+pub net_of-requires : goal.net_of-requires
+net_of-requires c =
     let t = c.contract-contract.result in
     let s = at_contract c.args.terms.now t c.contract-contract.ensures in
-    (omega (arith, c.amount-in-amount.ensures, amount_within t c.args.month, amount_limit t s), omega (arith, c.charged-of-charged.ensures, charge_limit t s c.args.before.now.charged (record { outage = c.outage-penalty-of.result; market = c.shortfall-penalty-of.result; dispatch = c.shortfall-penalty-of-2.result })))
+    (omega (arith, c.amount_in-amount.ensures, amount_within t c.args.month, amount_limit t s), omega (arith, c.charged_of-charged.ensures, charge_limit t s c.args.before.now.charged (record { outage = c.outage_penalty_of.result; market = c.shortfall_penalty_of.result; dispatch = c.shortfall_penalty_of-2.result })))
 
 pub returns : goal.returns
 returns c =
-    let fits : SFits w64 c.net-of.result = search rules in
-    made _ _ c.args.month c.args.before.now c.args.assessment.now.units c.contract-contract.ensures c.amount-in-amount.ensures c.outage-penalty-of.ensures c.shortfall-penalty-of.ensures c.shortfall-penalty-of-2.ensures c.charged-of-charged.ensures (to_z-of_z w64 c.net-of.result fits ∙ c.net-of.ensures)
+    let fits : SFits w64 c.net_of.result = search rules in
+    made _ _ c.args.month c.args.before.now c.args.assessment.now.units c.contract-contract.ensures c.amount_in-amount.ensures c.outage_penalty_of.ensures c.shortfall_penalty_of.ensures c.shortfall_penalty_of-2.ensures c.charged_of-charged.ensures (to_z-of_z w64 c.net_of.result fits ∙ c.net_of.ensures)

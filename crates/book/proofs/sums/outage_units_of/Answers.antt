@@ -6,8 +6,8 @@ use Rattle.book.specs.Lines.{empty, outage_units_in}
 use Rattle.book.specs.Limits.{Modest}
 use Rattle.book.proofs.sums.outage_units_of.Goals as goal
 
-pub overflow-add-sum : goal.overflow-add-sum
-overflow-add-sum c = omega (arith, c.requires.year, c.loop-line.invariant.1, c.loop-line-test.true, (All-get_or Modest _ _ empty c.loop-line-test.true c.requires.modest).outage_units)
+pub overflow_add-sum : goal.overflow_add-sum
+overflow_add-sum c = omega (arith, c.requires.year, c.loop-line.invariant.1, c.loop-line-test.true, (All-get_or Modest _ _ empty c.loop-line-test.true c.requires.modest).outage_units)
 
 pub loop-line-preserved : goal.loop-line-preserved
 loop-line-preserved c = (

@@ -20,10 +20,10 @@ returns-then-better-worse c = (
   λ each. absurd (c.if-better-worse.true (length_all_zip NoWorse _ _ each)),
 )
 
-pub returns-then-not-is-no-worse : goal.returns-then-not-is-no-worse
-returns-then-not-is-no-worse c = (
+pub returns-then-not-is_no_worse : goal.returns-then-not-is_no_worse
+returns-then-not-is_no_worse c = (
   λ e. absurd (false≢true e),
-  λ each. c.if-not-is-no-worse.ensures.1 (each_at _ _ _ _ each c.loop-i-test.true),
+  λ each. c.if-not-is_no_worse.ensures.1 (each_at _ _ _ _ each c.loop-i-test.true),
 )
 
 one_more : (xs ys : List Slot) (i : ℕ) (d : Slot) → i < length xs → i < length ys → AllZip NoWorse (take i xs) (take i ys) → NoWorse (get_or xs i d) (get_or ys i d) → AllZip NoWorse (take (i + 1) xs) (take (i + 1) ys)
@@ -31,7 +31,7 @@ one_more xs ys i d p q each here = rw (take_more xs i d p, take_more ys i d q) (
 
 pub loop-i-preserved : goal.loop-i-preserved
 loop-i-preserved c =
-    one_more c.args.better.now c.args.worse.now c.loop-i.i _ c.loop-i-test.true (omega (arith, c.loop-i-test.true, c.if-better-worse.false)) c.loop-i.invariant (c.if-not-is-no-worse.ensures.0 refl)
+    one_more c.args.better.now c.args.worse.now c.loop-i.i _ c.loop-i-test.true (omega (arith, c.loop-i-test.true, c.if-better-worse.false)) c.loop-i.invariant (c.if-not-is_no_worse.ensures.0 refl)
 
 pub returns : goal.returns
 returns c = (

@@ -3,27 +3,27 @@ use Rattle.std.proofs.lemmas.Result.{err_from_is_err_and}
 use Rattle.settlement.specs.Runs.{Priced}
 use Rattle.settlement.proofs.Starts.{first_bytes_decide}
 use Rattle.settlement.proofs.start.start.Goals as goal
-use Rattle.settlement.proofs.start.start.Goals.{In-ok-priced}
+use Rattle.settlement.proofs.start.start.Goals.{In_ok-priced}
 
-priced : (c : In-ok-priced) → Priced c.args.terms.now c.in-ok-priced.priced
-priced c = record { terms = c.in-ok-terms.terms; read = c.in-ok-terms.ensures.verdict; agreed = c.in-ok-priced.ensures.contract }
+priced : (c : In_ok-priced) → Priced c.args.terms.now c.in_ok-priced.priced
+priced c = record { terms = c.in_ok-terms.terms; read = c.in_ok-terms.ensures.verdict; agreed = c.in_ok-priced.ensures.contract }
 
-pub returns-in-err-terms : goal.returns-in-err-terms
-returns-in-err-terms c = record { started = search rules; first_bytes_decide = first_bytes_decide }
+pub returns-in_err-terms : goal.returns-in_err-terms
+returns-in_err-terms c = record { started = search rules; first_bytes_decide = first_bytes_decide }
 
-pub returns-in-err-priced : goal.returns-in-err-priced
-returns-in-err-priced c = record { started = search rules; first_bytes_decide = first_bytes_decide }
+pub returns-in_err-priced : goal.returns-in_err-priced
+returns-in_err-priced c = record { started = search rules; first_bytes_decide = first_bytes_decide }
 
-pub returns-in-err-contents : goal.returns-in-err-contents
-returns-in-err-contents c =
-    let p = err_from_is_err_and c.from-residual-in-err-contents.result c.from-residual-in-err-contents.ensures.1 in
+pub returns-in_err-contents : goal.returns-in_err-contents
+returns-in_err-contents c =
+    let p = err_from_is_err_and c.from_residual-in_err-contents.result c.from_residual-in_err-contents.ensures.1 in
     rw (p.1, p.2) (record {
-      started = (c.in-ok-priced.priced, (priced (goal.at.returns-in-err-contents c).In-ok-priced, c.in-err-contents.ensures.verdict));
+      started = (c.in_ok-priced.priced, (priced (goal.at.returns-in_err-contents c).In_ok-priced, c.in_err-contents.ensures.verdict));
       first_bytes_decide = first_bytes_decide;
     })
 
 pub returns : goal.returns
 returns c = record {
-  started = (c.in-ok-priced.priced, (priced (goal.at.returns c).In-ok-priced, c.open.ensures, c.in-ok-contents.ensures.verdict));
+  started = (c.in_ok-priced.priced, (priced (goal.at.returns c).In_ok-priced, c.open.ensures, c.in_ok-contents.ensures.verdict));
   first_bytes_decide = first_bytes_decide;
 }

@@ -10,14 +10,14 @@ use Rattle.statement.proofs.print.put_statement.Goals as goal
 abbrev numbers : Statement → List ℕ
 numbers s = s.month ∷ s.amount ∷ s.penalties.outage ∷ s.penalties.market ∷ s.penalties.dispatch ∷ s.charged ∷ []
 
-pub returns-in-err-at : goal.returns-in-err-at
-returns-in-err-at c =
+pub returns-in_err-at : goal.returns-in_err-at
+returns-in_err-at c =
     let s = c.args.statement.now in
-    rw c.from-residual.ensures (stop c.args.out.now (flat_map field (numbers s)) (last s.net) 0 c.in-err-at.ensures)
+    rw c.from_residual.ensures (stop c.args.out.now (flat_map field (numbers s)) (last s.net) 0 c.in_err-at.ensures)
 
 pub returns : goal.returns
 returns c =
     let s = c.args.statement.now in
     let fits : SFits w64 s.net = search rules in
-    let net = subst (λ (z : ℤ). Begun c.put-fields.new.out c.in-ok-at.at (last z) c.put-last.result c.put-last.new.out) (to_z-of_z w64 s.net fits) c.put-last.ensures in
-    then c.args.out.now c.put-fields.new.out c.put-last.new.out (flat_map field (numbers s)) (last s.net) 0 c.in-ok-at.at c.put-last.result c.in-ok-at.ensures net
+    let net = subst (λ (z : ℤ). Begun c.put_fields.new.out c.in_ok-at.at (last z) c.put_last.result c.put_last.new.out) (to_z-of_z w64 s.net fits) c.put_last.ensures in
+    then c.args.out.now c.put_fields.new.out c.put_last.new.out (flat_map field (numbers s)) (last s.net) 0 c.in_ok-at.at c.put_last.result c.in_ok-at.ensures net

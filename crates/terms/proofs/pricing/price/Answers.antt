@@ -5,22 +5,22 @@ use Rattle.terms.proofs.Smallness.{cut_le}
 use Rattle.terms.specs.Fractions.{cut}
 use Rattle.terms.proofs.pricing.price.Goals as goal
 
-pub rate-factor-requires : goal.rate-factor-requires
-rate-factor-requires c = price_in_range _ (sym c.in-default.ensures)
+pub rate_factor-requires : goal.rate_factor-requires
+rate_factor-requires c = price_in_range _ (sym c.in_default.ensures)
 
 pub total-total-requires : goal.total-total-requires
 total-total-requires c =
-    record { ranges = price_in_range _ (sym c.in-default.ensures); rate = c.in-Some-rate-factor.ensures.small }
+    record { ranges = price_in_range _ (sym c.in_default.ensures); rate = c.in-Some-rate_factor.ensures.small }
 
-pub overflow-cast-result : goal.overflow-cast-result
-overflow-cast-result c = omega (arith, year _ (sym c.in-default.ensures))
+pub overflow_cast-result : goal.overflow_cast-result
+overflow_cast-result c = omega (arith, year _ (sym c.in_default.ensures))
 
-pub overflow-cast-result-2 : goal.overflow-cast-result-2
-overflow-cast-result-2 c = omega (arith, hours _ (sym c.in-default.ensures))
+pub overflow_cast-result-2 : goal.overflow_cast-result-2
+overflow_cast-result-2 c = omega (arith, hours _ (sym c.in_default.ensures))
 
-pub invariant-of-result : goal.invariant-of-result
-invariant-of-result c =
-    let e = sym c.in-default.ensures in
+pub invariant_of-result : goal.invariant_of-result
+invariant_of-result c =
+    let e = sym c.in_default.ensures in
     let t = c.args.terms.now in (
       ((plant t e).0, (plant t e).1, (year t e).0, (year t e).1),
       (
@@ -32,18 +32,18 @@ invariant-of-result c =
       ),
     )
 
-pub overflow-cast-price : goal.overflow-cast-price
-overflow-cast-price c = omega (arith, cut_le _ c.total-total.ensures.small)
+pub overflow_cast-price : goal.overflow_cast-price
+overflow_cast-price c = omega (arith, cut_le _ c.total-total.ensures.small)
 
-pub nonzero-div-price : goal.nonzero-div-price
-nonzero-div-price c = omega (arith, c.total-total.ensures.small.some)
+pub nonzero_div-price : goal.nonzero_div-price
+nonzero_div-price c = omega (arith, c.total-total.ensures.small.some)
 
 pub returns : goal.returns
 returns c =
-    let some = sym c.in-Some-rate-factor.ensures.value in
+    let some = sym c.in-Some-rate_factor.ensures.value in
     let is = c.total-total.ensures.value in
     record {
       contract =
-          sym (contract_is c.args.terms.now c.in-Some-rate-factor.rate _ (sym c.in-default.ensures) some (ap cut is) c.if-price-gt-MAX-PRICE.false c.if-terms-full.false);
-      cut = (c.in-Some-rate-factor.rate, (some, cut_whole c.args.terms.now c.in-Some-rate-factor.rate _ is c.total-total.ensures.small.some));
+          sym (contract_is c.args.terms.now c.in-Some-rate_factor.rate _ (sym c.in_default.ensures) some (ap cut is) c.if-price-gt-MAX_PRICE.false c.if-terms-full.false);
+      cut = (c.in-Some-rate_factor.rate, (some, cut_whole c.args.terms.now c.in-Some-rate_factor.rate _ is c.total-total.ensures.small.some));
     }

@@ -7,13 +7,13 @@ pub loop-i-init : goal.loop-i-init
 unfolding first_out
 loop-i-init c = refl
 
-pub returns-then-not-in-range : goal.returns-then-not-in-range
-returns-then-not-in-range c =
-    let e = c.loop-i.invariant ∙ walk_stops _ c.loop-i.i (omega arith) (sym (range_told c.numbers-numbers.result c.loop-i.i _ (omega arith) (omega arith) c.if-not-in-range.ensures)) in
+pub returns-then-not-in_range : goal.returns-then-not-in_range
+returns-then-not-in_range c =
+    let e = c.loop-i.invariant ∙ walk_stops _ c.loop-i.i (omega arith) (sym (range_told c.numbers-numbers.result c.loop-i.i _ (omega arith) (omega arith) c.if-not-in_range.ensures)) in
     sym e ∙ ap first_out c.numbers-numbers.ensures
 
 pub loop-i-preserved : goal.loop-i-preserved
-loop-i-preserved c = c.loop-i.invariant ∙ walk_on _ c.loop-i.i (omega arith) (sym (range_told c.numbers-numbers.result c.loop-i.i _ (omega arith) (omega arith) c.if-not-in-range.ensures))
+loop-i-preserved c = c.loop-i.invariant ∙ walk_on _ c.loop-i.i (omega arith) (sym (range_told c.numbers-numbers.result c.loop-i.i _ (omega arith) (omega arith) c.if-not-in_range.ensures))
 
 pub returns : goal.returns
 returns c =

@@ -3,8 +3,8 @@ use Rattle.std.proofs.lemmas.Int.{ints}
 use Rattle.terms_file.proofs.RangeTable.{plain_at}
 use Rattle.terms_file.proofs.reading.whole.Goals as goal
 
-pub overflow-cast-result : goal.overflow-cast-result
-overflow-cast-result c = omega (arith, ints, plain_at c.args.values.now c.requires.ranges c.args.i c.requires.place)
+pub overflow_cast-result : goal.overflow_cast-result
+overflow_cast-result c = omega (arith, ints, plain_at c.args.values.now c.requires.ranges c.args.i c.requires.place)
 
 pub returns : goal.returns
 returns c = omega (arith, ints, plain_at c.args.values.now c.requires.ranges c.args.i c.requires.place)

@@ -20,7 +20,7 @@ front t c = elim c.if-n-lt10.branch [
   | else-n-lt10 w ↦ record {
     digits = decimal (c.args.n / 10);
     is = decimal_step c.args.n w.if-n-lt10.false (omega arith);
-    puts = named w.last-is w.out-is w.write-digits-last.ensures;
+    puts = named w.last-is w.out-is w.write_digits-last.ensures;
   }
 ]
 
@@ -29,14 +29,14 @@ room t c =
     let f = front t c in
     omega (arith, ap length f.is, length-append f.digits ((48 + c.args.n % 10) ∷ []), f.puts.place, c.requires)
 
-pub write-digits-last-requires : goal.write-digits-last-requires
-write-digits-last-requires t c = (omega arith, omega (arith, digit_more c.args.n c.if-n-lt10.false (omega arith)))
+pub write_digits-last-requires : goal.write_digits-last-requires
+write_digits-last-requires t c = (omega arith, omega (arith, digit_more c.args.n c.if-n-lt10.false (omega arith)))
 
 pub bounds-out-last : goal.bounds-out-last
 bounds-out-last t c = omega (arith, room t (goal.at.bounds-out-last t c).Joined-n-lt10, c.if-n-lt10.auto.out)
 
-pub overflow-add-result : goal.overflow-add-result
-overflow-add-result t c = omega (arith, room t (goal.at.overflow-add-result t c).Joined-n-lt10)
+pub overflow_add-result : goal.overflow_add-result
+overflow_add-result t c = omega (arith, room t (goal.at.overflow_add-result t c).Joined-n-lt10)
 
 pub returns : goal.returns
 returns t c =

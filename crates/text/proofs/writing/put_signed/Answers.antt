@@ -11,7 +11,7 @@ minus (negsuc n) m h e = rw e
 
 pub returns : goal.returns
 returns c =
-    let v = rw (to_z-of_z _ c.args.z c.ranges.z) at c.unsigned-abs-size.ensures.value in
+    let v = rw (to_z-of_z _ c.args.z c.ranges.z) at c.unsigned_abs-size.ensures.value in
     let h : c.args.z <ℤ pos 0 = grind (arith, ints) in
-    let m = minus c.args.z c.unsigned-abs-size.result h v in
-    (omega (arith, ap length m), spelt m (joins (omega arith) (one _ _ 45 (omega arith)) c.write-digits.ensures))
+    let m = minus c.args.z c.unsigned_abs-size.result h v in
+    (omega (arith, ap length m), spelt m (joins (omega arith) (one _ _ 45 (omega arith)) c.write_digits.ensures))

@@ -8,10 +8,10 @@ use Rattle.tour.proofs.acts.close_twice.Goals as goal
 
 pub unreachable-requires : goal.unreachable-requires
 unreachable-requires c =
-    let awaits = awaits_closed c.in-ok-notice.ensures.answer (lines_there c.args.book.now.led) in
+    let awaits = awaits_closed c.in_ok-notice.ensures.answer (lines_there c.args.book.now.led) in
     false≢true (sym c.in-Ok.ensures.answer.none_out ∙ awaits.is_out)
 
 pub unreachable-requires-in-Err-settle : goal.unreachable-requires-in-Err-settle
 unreachable-requires-in-Err-settle c =
-    let awaits = awaits_closed c.in-ok-notice.ensures.answer (lines_there c.args.book.now.led) in
-    c.in-Err-settle.ensures.0 (subst (λ (t : Table). Awaits t c.in-ok-notice.notice) (sym c.in-Err.ensures.answer.1) awaits)
+    let awaits = awaits_closed c.in_ok-notice.ensures.answer (lines_there c.args.book.now.led) in
+    c.in-Err-settle.ensures.0 (subst (λ (t : Table). Awaits t c.in_ok-notice.notice) (sym c.in-Err.ensures.answer.1) awaits)

@@ -16,21 +16,21 @@ part_long n xs h = let e : n - 0 ≡ n = omega arith in rw e (length-take-le n x
 upto : (c : In-Some) → c.in-Some.count ≤ 1488
 upto c = slots_upto c.args.year c.args.month c.in-Some.count (sym c.in-Some.ensures)
 
-pub returns-in-default : goal.returns-in-default
-returns-in-default c = record { verdict = no_month _ _ c.in-default.ensures; unchanged = λ _. refl; one_verdict = one_verdict; reads_back = reads_back; short_lines = short_lines }
+pub returns-in_default : goal.returns-in_default
+returns-in_default c = record { verdict = no_month _ _ c.in_default.ensures; unchanged = λ _. refl; one_verdict = one_verdict; reads_back = reads_back; short_lines = short_lines }
 
 pub returns-then-slots-count : goal.returns-then-slots-count
 returns-then-slots-count c =
     record { verdict = wrong_room _ _ c.in-Some.ensures c.if-slots-count.true; unchanged = λ _. refl; one_verdict = one_verdict; reads_back = reads_back; short_lines = short_lines }
 
-pub slice-bounds-room-end : goal.slice-bounds-room-end
-slice-bounds-room-end c = let h = upto (goal.at.slice-bounds-room-end c).In-Some in search rules
+pub slice_bounds-room-end : goal.slice_bounds-room-end
+slice_bounds-room-end c = let h = upto (goal.at.slice_bounds-room-end c).In-Some in search rules
 
-pub returns-in-err-read-lines : goal.returns-in-err-read-lines
-returns-in-err-read-lines c =
-    let p = err_from_is_err_and c.from-residual.result c.from-residual.ensures.1 in
+pub returns-in_err-read_lines : goal.returns-in_err-read_lines
+returns-in_err-read_lines c =
+    let p = err_from_is_err_and c.from_residual.result c.from_residual.ensures.1 in
     rw (p.1, p.2) record {
-      verdict = right_room _ _ c.in-Some.ensures c.if-slots-count.false c.in-err-read-lines.ensures (part_long _ _ (upto (goal.at.returns-in-err-read-lines c).In-Some));
+      verdict = right_room _ _ c.in-Some.ensures c.if-slots-count.false c.in_err-read_lines.ensures (part_long _ _ (upto (goal.at.returns-in_err-read_lines c).In-Some));
       unchanged = λ _. refl;
       one_verdict = one_verdict;
       reads_back = reads_back;
@@ -39,8 +39,8 @@ returns-in-err-read-lines c =
 
 pub returns : goal.returns
 returns c = record {
-  verdict = let e : c.copy-from-slice.new.self ≡ c.read-lines.new.slots = search rules in
-      rw e (right_room _ _ c.in-Some.ensures c.if-slots-count.false c.in-ok-read-lines.ensures (part_long _ _ (upto (goal.at.returns c).In-Some)));
+  verdict = let e : c.copy_from_slice.new.self ≡ c.read_lines.new.slots = search rules in
+      rw e (right_room _ _ c.in-Some.ensures c.if-slots-count.false c.in_ok-read_lines.ensures (part_long _ _ (upto (goal.at.returns c).In-Some)));
   unchanged = λ e. absurd (false≢true e);
   one_verdict = one_verdict;
   reads_back = reads_back;

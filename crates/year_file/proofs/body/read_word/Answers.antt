@@ -2,45 +2,45 @@ use Rattle.std.proofs.Common.{arith}
 use Rattle.year_file.proofs.Words.{spelt, spell}
 use Rattle.year_file.proofs.body.read_word.Goals as goal
 
-pub returns-then-saturating-sub-lt-WORD-BYTES : goal.returns-then-saturating-sub-lt-WORD-BYTES
-returns-then-saturating-sub-lt-WORD-BYTES c l rest e = omega (arith, (spelt c.args.text.now c.args.at l rest e).room)
+pub returns-then-saturating_sub-lt-WORD_BYTES : goal.returns-then-saturating_sub-lt-WORD_BYTES
+returns-then-saturating_sub-lt-WORD_BYTES c l rest e = omega (arith, (spelt c.args.text.now c.args.at l rest e).room)
 
-pub bounds-text-at-2 : goal.bounds-text-at-2
-bounds-text-at-2 c = omega (arith, c.if-saturating-sub-lt-WORD-BYTES.false, c.saturating-sub.ensures)
+pub bounds-text_at-2 : goal.bounds-text_at-2
+bounds-text_at-2 c = omega (arith, c.if-saturating_sub-lt-WORD_BYTES.false, c.saturating_sub.ensures)
 
-pub bounds-text-at-3 : goal.bounds-text-at-3
-bounds-text-at-3 c = omega (arith, c.if-saturating-sub-lt-WORD-BYTES.false, c.saturating-sub.ensures)
+pub bounds-text_at-3 : goal.bounds-text_at-3
+bounds-text_at-3 c = omega (arith, c.if-saturating_sub-lt-WORD_BYTES.false, c.saturating_sub.ensures)
 
-pub bounds-text-at-4 : goal.bounds-text-at-4
-bounds-text-at-4 c = omega (arith, c.if-saturating-sub-lt-WORD-BYTES.false, c.saturating-sub.ensures)
+pub bounds-text_at-4 : goal.bounds-text_at-4
+bounds-text_at-4 c = omega (arith, c.if-saturating_sub-lt-WORD_BYTES.false, c.saturating_sub.ensures)
 
-pub bounds-text-at-5 : goal.bounds-text-at-5
-bounds-text-at-5 c = omega (arith, c.if-saturating-sub-lt-WORD-BYTES.false, c.saturating-sub.ensures)
+pub bounds-text_at-5 : goal.bounds-text_at-5
+bounds-text_at-5 c = omega (arith, c.if-saturating_sub-lt-WORD_BYTES.false, c.saturating_sub.ensures)
 
-pub returns-in-err-outage : goal.returns-in-err-outage
-returns-in-err-outage c = rw c.from-residual.ensures (λ l rest e. c.in-err-outage.ensures l.0 (spelt c.args.text.now c.args.at l rest e).outage)
+pub returns-in_err-outage : goal.returns-in_err-outage
+returns-in_err-outage c = rw c.from_residual.ensures (λ l rest e. c.in_err-outage.ensures l.0 (spelt c.args.text.now c.args.at l rest e).outage)
 
-pub returns-in-err-low-reserve : goal.returns-in-err-low-reserve
-returns-in-err-low-reserve c = rw c.from-residual-in-err-low-reserve.ensures (λ l rest e. c.in-err-low-reserve.ensures l.1 (spelt c.args.text.now c.args.at l rest e).low_reserve)
+pub returns-in_err-low_reserve : goal.returns-in_err-low_reserve
+returns-in_err-low_reserve c = rw c.from_residual-in_err-low_reserve.ensures (λ l rest e. c.in_err-low_reserve.ensures l.1 (spelt c.args.text.now c.args.at l rest e).low_reserve)
 
-pub returns-in-err-dispatched : goal.returns-in-err-dispatched
-returns-in-err-dispatched c = rw c.from-residual-in-err-dispatched.ensures (λ l rest e. c.in-err-dispatched.ensures l.2 (spelt c.args.text.now c.args.at l rest e).dispatched)
+pub returns-in_err-dispatched : goal.returns-in_err-dispatched
+returns-in_err-dispatched c = rw c.from_residual-in_err-dispatched.ensures (λ l rest e. c.in_err-dispatched.ensures l.2 (spelt c.args.text.now c.args.at l rest e).dispatched)
 
-pub returns-in-err-papers : goal.returns-in-err-papers
-returns-in-err-papers c = rw c.from-residual-in-err-papers.ensures (λ l rest e. c.in-err-papers.ensures l.3 (spelt c.args.text.now c.args.at l rest e).papers)
+pub returns-in_err-papers : goal.returns-in_err-papers
+returns-in_err-papers c = rw c.from_residual-in_err-papers.ensures (λ l rest e. c.in_err-papers.ensures l.3 (spelt c.args.text.now c.args.at l rest e).papers)
 
-pub returns-then-text-at-ne10 : goal.returns-then-text-at-ne10
-returns-then-text-at-ne10 c l rest e = c.if-text-at-ne10.true (spelt c.args.text.now c.args.at l rest e).end
+pub returns-then-text_at-ne10 : goal.returns-then-text_at-ne10
+returns-then-text_at-ne10 c l rest e = c.if-text_at-ne10.true (spelt c.args.text.now c.args.at l rest e).end
 
 pub returns : goal.returns
 returns c = (
   spell c.args.text.now c.args.at _ (record {
-    room = omega (arith, c.if-saturating-sub-lt-WORD-BYTES.false, c.saturating-sub.ensures);
-    outage = c.in-ok-outage.ensures;
-    low_reserve = c.in-ok-low-reserve.ensures;
-    dispatched = c.in-ok-dispatched.ensures;
-    papers = c.in-ok-papers.ensures;
-    end = c.if-text-at-ne10.false;
+    room = omega (arith, c.if-saturating_sub-lt-WORD_BYTES.false, c.saturating_sub.ensures);
+    outage = c.in_ok-outage.ensures;
+    low_reserve = c.in_ok-low_reserve.ensures;
+    dispatched = c.in_ok-dispatched.ensures;
+    papers = c.in_ok-papers.ensures;
+    end = c.if-text_at-ne10.false;
   }),
-  omega (arith, c.if-saturating-sub-lt-WORD-BYTES.false, c.saturating-sub.ensures),
+  omega (arith, c.if-saturating_sub-lt-WORD_BYTES.false, c.saturating_sub.ensures),
 )

@@ -5,8 +5,8 @@ use Rattle.year_file.proofs.contents.read_contents.Goals as goal
 pub loop-i-init : goal.loop-i-init
 loop-i-init c = sofar_none _ _ refl
 
-pub returns-in-default : goal.returns-in-default
-returns-in-default c = record { verdict = bad_entry c.loop-i.invariant c.loop-i-test.true c.in-default.ensures; one_verdict = one_contents; twelve_fill = twelve_fill }
+pub returns-in_default : goal.returns-in_default
+returns-in_default c = record { verdict = bad_entry c.loop-i.invariant c.loop-i-test.true c.in_default.ensures; one_verdict = one_contents; twelve_fill = twelve_fill }
 
 pub returns-then-span-end : goal.returns-then-span-end
 returns-then-span-end c =

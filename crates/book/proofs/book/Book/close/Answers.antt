@@ -5,4 +5,4 @@ use Rattle.book.proofs.book.Book.close.Goals as goal
 
 pub returns : goal.returns
 returns c =
-    subst (λ (assessed : ℕ). Closed c.args.self.now.table c.args.slots.now (standard_rules assessed) c.close-by.result c.close-by.new.self.table) (ap (λ (k : Contract). k.assessed) c.contract-assessed.ensures) c.close-by.ensures
+    subst (λ (assessed : ℕ). Closed c.args.self.now.table c.args.slots.now (standard_rules assessed) c.close_by.result c.close_by.new.self.table) (ap (λ (k : Contract). k.assessed) c.contract-assessed.ensures) c.close_by.ensures

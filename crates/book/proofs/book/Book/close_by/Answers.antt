@@ -8,7 +8,7 @@ use Rattle.book.proofs.Closing.{refused_by, closes_by}
 use Rattle.book.proofs.Has.{goes_on}
 use Rattle.book.proofs.book.Book.close_by.Given as given
 use Rattle.book.proofs.book.Book.close_by.Goals as goal
-use Rattle.book.proofs.book.Book.close_by.Goals.{After-next-line-line}
+use Rattle.book.proofs.book.Book.close_by.Goals.{After-next_line-line}
 
 abbrev rules_of : (g : given.Over) → g.row.R1.Denot → g.row.R2.Denot → g.row.R3.Denot → PerRule RuleOf
 rules_of g x y z = record {
@@ -24,25 +24,25 @@ lawful g x y z = record {
   dispatch = record { numbered = g.met.R3.Rule.numbered; range = g.met.R3.Rule.range z; no_worse = g.met.R3.Rule.noWorse z };
 }
 
-pub returns-in-err-assessment : goal.returns-in-err-assessment
-returns-in-err-assessment g c =
-    let p = err_from_is_err_and c.from-residual.result c.from-residual.ensures.1 in
+pub returns-in_err-assessment : goal.returns-in_err-assessment
+returns-in_err-assessment g c =
+    let p = err_from_is_err_and c.from_residual.result c.from_residual.ensures.1 in
     let a = c.args.self.now.table in
     rw (p.1, p.2) (record {
       lawful = lawful g c.args.outage.now c.args.market.now c.args.dispatch.now;
-      answer = (refused_by a c.args.slots.now c.if-self.false c.if-self-ge12.false c.open-month-open.ensures _ c.in-err-assessment.ensures, refl);
+      answer = (refused_by a c.args.slots.now c.if-self.false c.if-self-ge12.false c.open_month-open.ensures _ c.in_err-assessment.ensures, refl);
     })
 
-closed : (g : given.Over) (c : After-next-line-line g) → Closed c.args.self.now.table c.args.slots.now (rules_of g c.args.outage.now c.args.market.now c.args.dispatch.now) (Ok (notice_of c.args.self.now.table c.next-line-line.result)) (with_line c.args.self.now.table c.next-line-line.result true c.args.self.now.table.issue)
+closed : (g : given.Over) (c : After-next_line-line g) → Closed c.args.self.now.table c.args.slots.now (rules_of g c.args.outage.now c.args.market.now c.args.dispatch.now) (Ok (notice_of c.args.self.now.table c.next_line-line.result)) (with_line c.args.self.now.table c.next_line-line.result true c.args.self.now.table.issue)
 closed g c =
     let a = c.args.self.now.table in
     record {
       lawful = lawful g c.args.outage.now c.args.market.now c.args.dispatch.now;
-      answer = closes_by a c.args.slots.now c.if-self.false c.if-self-ge12.false c.open-month-open.ensures c.in-ok-assessment.ensures c.next-line-line.ensures;
+      answer = closes_by a c.args.slots.now c.if-self.false c.if-self-ge12.false c.open_month-open.ensures c.in_ok-assessment.ensures c.next_line-line.ensures;
     }
 
-pub invariant-of-self : goal.invariant-of-self
-invariant-of-self g c = (goes_on (closing _ _ _) c.args.self.now.led (closed g (goal.at.invariant-of-self g c).After-next-line-line), tt)
+pub invariant_of-self : goal.invariant_of-self
+invariant_of-self g c = (goes_on (closing _ _ _) c.args.self.now.led (closed g (goal.at.invariant_of-self g c).After-next_line-line), tt)
 
 pub returns : goal.returns
-returns g c = rw c.numbers-of.ensures (closed g (goal.at.returns g c).After-next-line-line)
+returns g c = rw c.numbers_of.ensures (closed g (goal.at.returns g c).After-next_line-line)

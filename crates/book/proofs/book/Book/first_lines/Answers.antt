@@ -5,8 +5,8 @@ use Rattle.book.specs.Limits.{Modest}
 use Rattle.book.proofs.Has.{year, modest_first}
 use Rattle.book.proofs.book.Book.first_lines.Goals as goal
 
-pub slice-bounds-result-end : goal.slice-bounds-result-end
-slice-bounds-result-end c = search (rules, year c.args.self.now.led)
+pub slice_bounds-result-end : goal.slice_bounds-result-end
+slice_bounds-result-end c = search (rules, year c.args.self.now.led)
 
 pub returns : goal.returns
 returns c =

@@ -26,5 +26,5 @@ module _ (a : Table) (numbers units : PerRule â„•) (ls : List Line) (outage : â„
 
 pub returns : goal.returns
 returns c =
-    let fits : SFits w64 c.month-yen-yen.result.net = search rules in
-    made c.args.self.now.table _ _ _ _ c.totals_of.result c.month-yen-yen.result _ c.first-lines-settled.ensures.value c.outage-units-of.ensures c.totals_of.ensures.value c.month-yen-yen.ensures (to_z-of_z w64 c.month-yen-yen.result.net fits)
+    let fits : SFits w64 c.month_yen-yen.result.net = search rules in
+    made c.args.self.now.table _ _ _ _ c.totals_of.result c.month_yen-yen.result _ c.first_lines-settled.ensures.value c.outage_units_of.ensures c.totals_of.ensures.value c.month_yen-yen.ensures (to_z-of_z w64 c.month_yen-yen.result.net fits)

@@ -6,6 +6,6 @@ use Rattle.book.proofs.book.Book.object.Goals as goal
 pub bounds-self-self : goal.bounds-self-self
 bounds-self-self c = month_out c.args.self.now.led (c.if-not-awaits.ensures.0 refl).is_out
 
-pub invariant-of-self : goal.invariant-of-self
-invariant-of-self c =
+pub invariant_of-self : goal.invariant_of-self
+invariant_of-self c =
     (goes_on (objecting c.args.notice (Ok tt)) c.args.self.now.led (record { awaits = c.if-not-awaits.ensures.0 refl; issue_left = c.if-self-ge99.false; left = refl }), tt)

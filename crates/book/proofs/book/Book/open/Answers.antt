@@ -2,5 +2,5 @@ use Rattle.std.proofs.Common.{refl}
 use Rattle.book.proofs.Has.{begun}
 use Rattle.book.proofs.book.Book.open.Goals as goal
 
-pub invariant-of-result : goal.invariant-of-result
-invariant-of-result c = (begun (record { fresh = refl }), tt)
+pub invariant_of-result : goal.invariant_of-result
+invariant_of-result c = (begun (record { fresh = refl }), tt)

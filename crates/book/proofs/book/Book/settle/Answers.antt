@@ -4,10 +4,10 @@ use Rattle.book.specs.History.{settling}
 use Rattle.book.proofs.Has.{month_out, goes_on}
 use Rattle.book.proofs.book.Book.settle.Goals as goal
 
-pub overflow-add-self : goal.overflow-add-self
-overflow-add-self c = omega (arith, month_out c.args.self.now.led (c.if-not-awaits.ensures.0 refl).is_out)
+pub overflow_add-self : goal.overflow_add-self
+overflow_add-self c = omega (arith, month_out c.args.self.now.led (c.if-not-awaits.ensures.0 refl).is_out)
 
-pub invariant-of-self : goal.invariant-of-self
-invariant-of-self c =
+pub invariant_of-self : goal.invariant_of-self
+invariant_of-self c =
     let n = c.args.notice in
     (goes_on (settling n (Ok (settlement_of n.numbers.net))) c.args.self.now.led (record { awaits = c.if-not-awaits.ensures.0 refl; answered = refl; left = refl }), tt)

@@ -2,8 +2,8 @@ use Rattle.std.proofs.Common.{arith}
 use Rattle.book.proofs.Has.{year, month_out}
 use Rattle.book.proofs.book.Book.shown.Goals as goal
 
-pub overflow-add-result : goal.overflow-add-result
-overflow-add-result c = omega (arith, month_out c.args.self.now.led c.if-self.true)
+pub overflow_add-result : goal.overflow_add-result
+overflow_add-result c = omega (arith, month_out c.args.self.now.led c.if-self.true)
 
 pub returns-then-self : goal.returns-then-self
 returns-then-self c = record { value = rw c.if-self.true; year = omega (arith, month_out c.args.self.now.led c.if-self.true) }
