@@ -121,9 +121,9 @@ impl Book {
         dispatch: &R3,
     ) -> Result<Notice, CloseRefusal>
         ensures { Step self.old.table (closing slots.now (record {
-          outage = record { number = R1.Rule.numberOf; units = R1.Rule.meaning outage.entry.now };
-          market = record { number = R2.Rule.numberOf; units = R2.Rule.meaning market.now };
-          dispatch = record { number = R3.Rule.numberOf; units = R3.Rule.meaning dispatch.now };
+          outage = record { number = R1.number_of; units = R1.meaning outage.now };
+          market = record { number = R2.number_of; units = R2.meaning market.now };
+          dispatch = record { number = R3.number_of; units = R3.meaning dispatch.now };
         }) result) self.new.table }
     {
         if self.table.out {

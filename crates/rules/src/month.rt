@@ -49,7 +49,7 @@ fn check_slots(open: &OpenMonth, slots: &[Slot]) -> Result<(), SlotsRefusal>
 fn units_of<R: Rule>(rule: &R, slots: &[Slot]) -> u64
     requires few { length slots.now ≤ 1488 }
     requires within { All Within slots.now }
-    ensures value { result ≡ month_units (meaning rule.now) slots.now }
+    ensures value { result ≡ month_units (R.meaning rule.now) slots.now }
     ensures limit { result ≤ 14880000000 }
 {
     let mut sum = 0;
@@ -69,9 +69,9 @@ pub fn assess<R1: Rule, R2: Rule, R3: Rule>(
 ) -> Result<Assessment, SlotsRefusal>
     ensures { MatchResult result
         (λ a. Assesses «open».now slots.now (record {
-          outage = record { number = R1.Rule.numberOf; units = R1.Rule.meaning outage.entry.now };
-          market = record { number = R2.Rule.numberOf; units = R2.Rule.meaning market.now };
-          dispatch = record { number = R3.Rule.numberOf; units = R3.Rule.meaning dispatch.now };
+          outage = record { number = R1.number_of; units = R1.meaning outage.now };
+          market = record { number = R2.number_of; units = R2.meaning market.now };
+          dispatch = record { number = R3.number_of; units = R3.meaning dispatch.now };
         }) a.numbers a.units)
         (λ e. Refuses «open».now slots.now e) }
 {

@@ -12,22 +12,22 @@ pub trait Rule {
     const NUMBER: u8;
 
     // NUMBER, as clauses say it
-    ghost numberOf: { ℕ };
+    ghost number_of: { ℕ };
 
     // the units of a slot within its limits
     ghost meaning: { Self → Slot → ℕ };
 
     // NUMBER, for code that is generic over the rule: a clause there cannot name the constant
     fn own_number() -> u8
-        ensures { result ≡ numberOf };
+        ensures { result ≡ number_of };
 
     fn units(&self, slot: &Slot) -> u32
         requires { Within slot.now }
         ensures { result ≡ meaning self.now slot.now };
 
-    ghost numbered: { (1 ≤ numberOf) × (numberOf ≤ 255) };
+    ghost numbered: { (1 ≤ number_of) × (number_of ≤ 255) };
 
     ghost range: { (rule : Self) (slot : Slot) → Within slot → meaning rule slot ≤ 10000000 };
 
-    ghost noWorse: { (rule : Self) (b a : Slot) → Within b → Within a → NoWorse b a → meaning rule b ≤ meaning rule a };
+    ghost no_worse: { (rule : Self) (b a : Slot) → Within b → Within a → NoWorse b a → meaning rule b ≤ meaning rule a };
 }

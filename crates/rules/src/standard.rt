@@ -9,7 +9,7 @@ use records::slot::{Outage, Slot};
 impl Rule for OutageRule {
     const NUMBER: u8 = 1;
 
-    ghost numberOf = { 1 };
+    ghost number_of = { 1 };
 
     ghost meaning = { λ rule slot. outage_units rule.assessed slot };
 
@@ -17,7 +17,7 @@ impl Rule for OutageRule {
 
     ghost range = { first_of (Prim.search rules, Prim.grind (arith, Self.row.coded.inj)) };
 
-    ghost noWorse = { first_of (Prim.search rules, Prim.grind (arith, Self.row.coded.inj)) };
+    ghost no_worse = { first_of (Prim.search rules, Prim.grind (arith, Self.row.coded.inj)) };
 
     fn own_number() -> u8 {
         Self::NUMBER
@@ -36,7 +36,7 @@ impl Rule for OutageRule {
 impl Rule for MarketRule {
     const NUMBER: u8 = 2;
 
-    ghost numberOf = { 2 };
+    ghost number_of = { 2 };
 
     ghost meaning = { λ rule slot. market_units rule.assessed slot };
 
@@ -44,7 +44,7 @@ impl Rule for MarketRule {
 
     ghost range = { first_of (Prim.search rules, Prim.grind (arith, Self.row.coded.inj)) };
 
-    ghost noWorse = { first_of (Prim.search rules, Prim.grind (arith, Self.row.coded.inj)) };
+    ghost no_worse = { first_of (Prim.search rules, Prim.grind (arith, Self.row.coded.inj)) };
 
     fn own_number() -> u8 {
         Self::NUMBER
@@ -68,7 +68,7 @@ impl Rule for MarketRule {
 impl Rule for DispatchRule {
     const NUMBER: u8 = 3;
 
-    ghost numberOf = { 3 };
+    ghost number_of = { 3 };
 
     ghost meaning = { λ rule slot. dispatch_units rule.assessed slot };
 
@@ -76,7 +76,7 @@ impl Rule for DispatchRule {
 
     ghost range = { first_of (Prim.search rules, Prim.grind (arith, Self.row.coded.inj)) };
 
-    ghost noWorse = { first_of (Prim.search rules, Prim.grind (arith, Self.row.coded.inj)) };
+    ghost no_worse = { first_of (Prim.search rules, Prim.grind (arith, Self.row.coded.inj)) };
 
     fn own_number() -> u8 {
         Self::NUMBER

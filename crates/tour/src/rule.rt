@@ -11,7 +11,7 @@ pub(crate) struct LowReserveRule;
 impl Rule for LowReserveRule {
     const NUMBER: u8 = 7;
 
-    ghost numberOf = { 7 };
+    ghost number_of = { 7 };
 
     ghost meaning = { λ _ slot. (if slot.low_reserve then 10 else 0) };
 
@@ -19,7 +19,7 @@ impl Rule for LowReserveRule {
 
     ghost range = { Prim.search rules };
 
-    ghost noWorse = { Prim.search rules };
+    ghost no_worse = { Prim.search rules };
 
     fn own_number() -> u8 {
         Self::NUMBER

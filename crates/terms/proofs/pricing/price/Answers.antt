@@ -21,16 +21,13 @@ overflow_cast-result-2 c = omega (arith, hours _ (sym c.in_default.ensures))
 pub invariant_of-result : goal.invariant_of-result
 invariant_of-result c =
     let e = sym c.in_default.ensures in
-    let t = c.args.terms.now in (
-      ((plant t e).0, (plant t e).1, (year t e).0, (year t e).1),
-      (
-        ((capacity t e).0, (capacity t e).1, tenth t e),
-        (
-          ((assessed t e).0, (assessed t e).1, (hours t e).0, (hours t e).1),
-          ((omega arith, omega arith), tt),
-        ),
-      ),
-    )
+    let t = c.args.terms.now in
+    record {
+      named = ((plant t e).0, (plant t e).1, (year t e).0, (year t e).1);
+      sized = ((capacity t e).0, (capacity t e).1, tenth t e);
+      assessed = ((assessed t e).0, (assessed t e).1, (hours t e).0, (hours t e).1);
+      worth = (omega arith, omega arith);
+    }
 
 pub overflow_cast-price : goal.overflow_cast-price
 overflow_cast-price c = omega (arith, cut_le _ c.total-total.ensures.small)

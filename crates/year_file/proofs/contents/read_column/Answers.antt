@@ -22,10 +22,10 @@ overflow_add-n c = omega (arith, below_room c.loop-i.i c.loop-i.n (omega arith) 
 pub loop-i-preserved : goal.loop-i-preserved
 loop-i-preserved c = sofar_more _ _ _ _ c.loop-i.invariant (omega arith) c.if-not-is_ascii_digit.ensures.cases
 
-pub returns-then-text_at : goal.returns-then-text_at
-returns-then-text_at c =
+pub returns-then-text-at : goal.returns-then-text-at
+returns-then-text-at c =
     let whole : c.loop-i.i ≡ c.args.width = omega arith in
-    (column_at _ _ c.requires.0 c.requires.1 _ _ _ (subst (λ k. Sofar c.args.text.now c.args.at k c.loop-i.n) whole c.loop-i.invariant) (omega arith) c.if-text_at.true, omega arith)
+    (column_at _ _ c.requires.0 c.requires.1 _ _ _ (subst (λ k. Sofar c.args.text.now c.args.at k c.loop-i.n) whole c.loop-i.invariant) (omega arith) c.if-text-at.true, omega arith)
 
-pub returns-else-text_at : goal.returns-else-text_at
-returns-else-text_at c m rest f = c.if-text_at.false (column_end _ _ c.requires.0 c.requires.1 c.args.text.now c.args.at m rest f)
+pub returns-else-text-at : goal.returns-else-text-at
+returns-else-text-at c m rest f = c.if-text-at.false (column_end _ _ c.requires.0 c.requires.1 c.args.text.now c.args.at m rest f)

@@ -12,16 +12,16 @@ use Rattle.book.proofs.book.Book.close_by.Goals.{After-next_line-line}
 
 abbrev rules_of : (g : given.Over) → g.row.R1.Denot → g.row.R2.Denot → g.row.R3.Denot → PerRule RuleOf
 rules_of g x y z = record {
-  outage = record { number = g.R1.Rule.numberOf; units = g.R1.Rule.meaning x };
-  market = record { number = g.R2.Rule.numberOf; units = g.R2.Rule.meaning y };
-  dispatch = record { number = g.R3.Rule.numberOf; units = g.R3.Rule.meaning z };
+  outage = record { number = g.R1.Rule.number_of; units = g.R1.Rule.meaning x };
+  market = record { number = g.R2.Rule.number_of; units = g.R2.Rule.meaning y };
+  dispatch = record { number = g.R3.Rule.number_of; units = g.R3.Rule.meaning z };
 }
 
 lawful : (g : given.Over) (x : g.row.R1.Denot) (y : g.row.R2.Denot) (z : g.row.R3.Denot) → LawfulRules (rules_of g x y z)
 lawful g x y z = record {
-  outage = record { numbered = g.met.R1.Rule.numbered; range = g.met.R1.Rule.range x; no_worse = g.met.R1.Rule.noWorse x };
-  market = record { numbered = g.met.R2.Rule.numbered; range = g.met.R2.Rule.range y; no_worse = g.met.R2.Rule.noWorse y };
-  dispatch = record { numbered = g.met.R3.Rule.numbered; range = g.met.R3.Rule.range z; no_worse = g.met.R3.Rule.noWorse z };
+  outage = record { numbered = g.met.R1.Rule.numbered; range = g.met.R1.Rule.range x; no_worse = g.met.R1.Rule.no_worse x };
+  market = record { numbered = g.met.R2.Rule.numbered; range = g.met.R2.Rule.range y; no_worse = g.met.R2.Rule.no_worse y };
+  dispatch = record { numbered = g.met.R3.Rule.numbered; range = g.met.R3.Rule.range z; no_worse = g.met.R3.Rule.no_worse z };
 }
 
 pub returns-in_err-assessment : goal.returns-in_err-assessment
