@@ -42,7 +42,7 @@ closed g c =
     }
 
 pub invariant_of-self : goal.invariant_of-self
-invariant_of-self g c = (goes_on (closing _ _ _) c.args.self.now.led (closed g (goal.at.invariant_of-self g c).After-next_line-line), tt)
+invariant_of-self g c = record { led = goes_on (closing _ _ _) c.args.self.now.led (closed g (goal.at.invariant_of-self g c).After-next_line-line) }
 
 pub returns : goal.returns
 returns g c = rw c.numbers_of.ensures (closed g (goal.at.returns g c).After-next_line-line)

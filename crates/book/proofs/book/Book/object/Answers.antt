@@ -8,4 +8,6 @@ bounds-self-self c = month_out c.args.self.now.led (c.if-not-awaits.ensures.0 re
 
 pub invariant_of-self : goal.invariant_of-self
 invariant_of-self c =
-    (goes_on (objecting c.args.notice (Ok tt)) c.args.self.now.led (record { awaits = c.if-not-awaits.ensures.0 refl; issue_left = c.if-self-ge99.false; left = refl }), tt)
+    record {
+      led = goes_on (objecting c.args.notice (Ok tt)) c.args.self.now.led (record { awaits = c.if-not-awaits.ensures.0 refl; issue_left = c.if-self-ge99.false; left = refl });
+    }

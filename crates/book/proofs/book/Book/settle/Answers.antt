@@ -10,4 +10,6 @@ overflow_add-self c = omega (arith, month_out c.args.self.now.led (c.if-not-awai
 pub invariant_of-self : goal.invariant_of-self
 invariant_of-self c =
     let n = c.args.notice in
-    (goes_on (settling n (Ok (settlement_of n.numbers.net))) c.args.self.now.led (record { awaits = c.if-not-awaits.ensures.0 refl; answered = refl; left = refl }), tt)
+    record {
+      led = goes_on (settling n (Ok (settlement_of n.numbers.net))) c.args.self.now.led (record { awaits = c.if-not-awaits.ensures.0 refl; answered = refl; left = refl });
+    }
