@@ -1,5 +1,6 @@
 // The body reader, for a benchmark in another language to link.
 #![tactic(auto)]
+
 ghost use Rattle.bench_body.specs.Answer.{Answered};
 
 use records::slot::Slot;

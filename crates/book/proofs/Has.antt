@@ -3,7 +3,7 @@ use Rattle.std.proofs.Common.{◌≡◌, ℕ, ◌+◌, ◌-◌, ◌<◌, ◌≤�
 use mathlib.Core.Logic.{∥∥₁_elim, ∥∥₁_map}
 use native.Mathlib.Bridge.{le_prop}
 use lib.Dec.{T_prop}
-use Rattle.std.specs.List.{AllByRecursion as All}
+use Rattle.std.specs.List.{AllByRecursion}
 use Rattle.std.proofs.ByRecursion.{All-get_or, All-push, All-take}
 use Rattle.std.proofs.lemmas.List.{get_or-take, length-take-le, take-take}
 use Rattle.std.proofs.lemmas.Int.{ints}
@@ -47,11 +47,11 @@ modest_month c s m ms early sound =
       net_upto = omega (arith, ints, amount, amount_limit c s);
     }
 
-modest_lines : (c : Contract) → Sound c → (ms : List Month) (ls : List Line) → length ms ≤ 12 → length ms ≤ length ls → All SoundMonth ms → Stands c ms ls → All Modest (take (length ms) ls)
+modest_lines : (c : Contract) → Sound c → (ms : List Month) (ls : List Line) → length ms ≤ 12 → length ms ≤ length ls → AllByRecursion SoundMonth ms → Stands c ms ls → AllByRecursion Modest (take (length ms) ls)
 modest_lines c s [] ls early le sound st = tt
 modest_lines c s (m ∷ ms) ls early le sound st =
     let here : Modest (line_at ls (length ms)) = subst Modest (sym st.1) (modest_month c s m ms early sound.0) in
-    subst (All Modest) (sym (take-suc ls (length ms) empty le)) (All-push Modest (take (length ms) ls) (line_at ls (length ms)) (modest_lines c s ms ls (omega arith) (omega arith) sound.1 st.0) here)
+    subst (AllByRecursion Modest) (sym (take-suc ls (length ms) empty le)) (All-push Modest (take (length ms) ls) (line_at ls (length ms)) (modest_lines c s ms ls (omega arith) (omega arith) sound.1 st.0) here)
 
 -- these facts have at most one proof, so a table that has a history has them
 ≤ℤ_prop : {a b : ℤ} → IsProp (a ≤ℤ b)
@@ -70,7 +70,7 @@ modest_prop l u v = λ i. record {
   net_upto = ≤ℤ_prop u.net_upto v.net_upto i;
 }
 
-all_prop : {X : Type 0} {P : X → Type 0} → ((x : X) → IsProp (P x)) → (xs : List X) → IsProp (All P xs)
+all_prop : {X : Type 0} {P : X → Type 0} → ((x : X) → IsProp (P x)) → (xs : List X) → IsProp (AllByRecursion P xs)
 all_prop one [] u v = refl
 all_prop one (x ∷ xs) u v = λ i. (one x u.0 v.0 i, all_prop one xs u.1 v.1 i)
 
@@ -87,19 +87,19 @@ module _ {a : Table} (h : HasHistory a) where
   pub month_out : a.out ≡ true → a.settled < 12
   month_out o = ∥∥₁_elim h le_prop (λ l. ((kept l.2).waiting o).0)
 
-  pub modest_shown : All Modest (take (shown a) a.lines)
+  pub modest_shown : AllByRecursion Modest (take (shown a) a.lines)
   modest_shown = ∥∥₁_elim h (all_prop modest_prop (take (shown a) a.lines)) (λ l.
       let k = kept l.2 in
       let s = shown_months k in
-      subst (λ n. All Modest (take n a.lines)) s.counted (modest_lines l.0.contract (priced.sound l.0) s.months a.lines s.year (omega (arith, s.year, k.twelve)) s.sound s.stand))
+      subst (λ n. AllByRecursion Modest (take n a.lines)) s.counted (modest_lines l.0.contract (priced.sound l.0) s.months a.lines s.year (omega (arith, s.year, k.twelve)) s.sound s.stand))
 
   pub shown_year : shown a ≤ 12
   shown_year = ∥∥₁_elim h le_prop (λ l. let s = shown_months (kept l.2) in omega (arith, s.counted, s.year))
 
-  pub modest_first : (n : ℕ) → n ≤ a.settled → All Modest (take n a.lines)
+  pub modest_first : (n : ℕ) → n ≤ a.settled → AllByRecursion Modest (take n a.lines)
   modest_first n le =
       let some : n ≤ shown a = omega arith in
-      subst (All Modest) (take-take n (shown a) a.lines some) (All-take Modest n (take (shown a) a.lines) modest_shown)
+      subst (AllByRecursion Modest) (take-take n (shown a) a.lines some) (All-take Modest n (take (shown a) a.lines) modest_shown)
 
   -- of a month that is settled or under notice, counted from 1
   pub modest_at : (month : ℕ) → 1 ≤ month → month ≤ shown a → Modest (line_at a.lines (month - 1))

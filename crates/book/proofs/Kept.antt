@@ -1,6 +1,6 @@
 -- What every history keeps of its table.
 use Rattle.std.proofs.Common.{◌≡◌, ℕ, zero, suc, ◌+◌, ◌<◌, ◌≤◌, Bool, true, false, cond, ◌≢◌, List, [], ◌∷◌, length, take, set, ℤ, pos, negsuc, ◌-ℤ◌, neg_ℤ, Ok, Err, sym, refl, ap, ◌∙◌, subst, add-one, arith, length-set, get_or-set_other, get_or-set_same}
-use Rattle.std.specs.List.{AllByRecursion as All}
+use Rattle.std.specs.List.{AllByRecursion}
 use Rattle.std.proofs.lemmas.Int.{ints}
 use Rattle.std.proofs.lemmas.List.Sums.{sum_by_more}
 use Rattle.std.proofs.lemmas.Bool.{false≢true}
@@ -26,7 +26,7 @@ use Rattle.book.specs.Standing.{Event, closed, settled, objected, events, object
 pub record SoundMonth (m : Month) : Type 0 where
   pub lawful : LawfulRules m.rules
   pub few : length m.slots ≤ 1488
-  pub within : All Within m.slots
+  pub within : AllByRecursion Within m.slots
 
 pub record Kept (t : PricedTerms) (es : List Event) (a : Table) : Type 0 where
   pub same_terms : a.terms ≡ t
@@ -37,7 +37,7 @@ pub record Kept (t : PricedTerms) (es : List Event) (a : Table) : Type 0 where
   pub year : a.settled ≤ 12
   pub stood : Stands t.contract (standing es) a.lines
   pub waiting : a.out ≡ true → (a.settled < 12) × (line_at a.lines a.settled ≡ standing_line t.contract (pending es) (standing es))
-  pub sound : All SoundMonth (standing es)
+  pub sound : AllByRecursion SoundMonth (standing es)
   pub sound_next : a.out ≡ true → SoundMonth (pending es)
   pub squared : paid es + (carried t.contract (standing es)).charged ≡ amounts_in t.contract (length (standing es)) + claimed es
 
@@ -179,7 +179,7 @@ module _ {t : PricedTerms} {es : List Event} {a : Table} (k : Kept t es a) where
     pub counted : length months ≡ shown a
     pub year : length months ≤ 12
     pub stand : Stands t.contract months a.lines
-    pub sound : All SoundMonth months
+    pub sound : AllByRecursion SoundMonth months
 
   pub shown_months : ShownMonths
   shown_months = go a.out refl

@@ -3,7 +3,7 @@ use Rattle.std.proofs.Common.{◌≡◌, ℕ, zero, suc, ◌+◌, ◌<◌, ◌�
 use mathlib.Core.List.{reverse-cons}
 use native.Mathlib.Decide.{dec_lt}
 use lib.ListN.{length-reverse}
-use Rattle.std.specs.List.{AllByRecursion as All}
+use Rattle.std.specs.List.{AllByRecursion}
 use Rattle.std.proofs.lemmas.List.{get_or_append_left, get_or_push, take_all}
 use Rattle.std.proofs.lemmas.Int.{ints}
 use Rattle.std.proofs.lemmas.List.Sums.{sum_by_more, fold_more}
@@ -47,7 +47,7 @@ by_months P m ms here before n h = go (split n (length ms) h)
     go (inl e) = subst (λ k. P k (month_at (m ∷ ms) k)) (sym e) (subst (P (length ms)) (sym (month_here m ms)) here)
     go (inr k) = subst (P n) (sym (month_before m ms n k)) (before n k)
 
-sound_at : (ms : List Month) → All SoundMonth ms → (n : ℕ) → n < length ms → SoundMonth (month_at ms n)
+sound_at : (ms : List Month) → AllByRecursion SoundMonth ms → (n : ℕ) → n < length ms → SoundMonth (month_at ms n)
 sound_at [] s n h = absurd (omega arith)
 sound_at (m ∷ ms) s n h = by_months (λ n x. SoundMonth x) m ms s.0 (sound_at ms s.1) n h
 

@@ -1,6 +1,6 @@
 // The book and its calls.
 ghost use Rattle.std.specs.Prelude.{◌≡◌, ◌<◌, ◌≤◌, length, take, Decides, MatchOption};
-ghost use Rattle.std.specs.List.{AllByRecursion as All};
+ghost use Rattle.std.specs.List.{AllByRecursion};
 ghost use Rattle.statement.specs.Text.{statement_text};
 ghost use Rattle.book.specs.Calls.{Opened, open_month, next_line, notice_of, standard_rules, Awaits, shown, Printable, text_at};
 ghost use Rattle.book.specs.Limits.{Modest};
@@ -83,7 +83,7 @@ impl Book {
         requires { months ≤ self.now.table.settled }
         ensures value { result.now ≡ take months self.now.table.lines }
         ensures year { length result.now ≤ 12 }
-        ensures modest { All Modest result.now }
+        ensures modest { AllByRecursion Modest result.now }
     {
         &self.table.lines[0..months as usize]
     }

@@ -1,6 +1,6 @@
 // Two books beside each other.
 ghost use Rattle.std.specs.Prelude.{◌≡◌, ◌≤◌, length};
-ghost use Rattle.std.specs.List.{AllByRecursion as All};
+ghost use Rattle.std.specs.List.{AllByRecursion};
 ghost use Rattle.book.specs.Comparing.{Compares, sums_of};
 ghost use Rattle.book.specs.History.{HasHistory};
 ghost use Rattle.book.specs.Limits.{Modest};
@@ -13,7 +13,7 @@ use crate::sums::totals_of;
 
 fn sums_of(lines: &[Line]) -> Sums
     requires year { length lines.now ≤ 12 }
-    requires modest { All Modest lines.now }
+    requires modest { AllByRecursion Modest lines.now }
     ensures { result ≡ sums_of lines.now }
 {
     let totals = totals_of(lines);

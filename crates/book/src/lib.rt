@@ -1,5 +1,6 @@
 // The settlement book of one plant for one contract year.
 #![tactic(auto)]
+
 pub mod book;
 pub mod compare;
 pub mod comparison;

@@ -1,6 +1,6 @@
 // Sums over month lines.
 ghost use Rattle.std.specs.Prelude.{◌≡◌, ◌+◌, ◌≤◌, length, ◌+ℤ◌};
-ghost use Rattle.std.specs.List.{AllByRecursion as All};
+ghost use Rattle.std.specs.List.{AllByRecursion};
 ghost use Rattle.book.specs.Lines.{outage_units_in, totals_of};
 ghost use Rattle.book.specs.Limits.{Modest, Few};
 
@@ -10,7 +10,7 @@ use rules::assessment::PerRule;
 // The units of the lines under the outage rule.
 pub(crate) fn outage_units_of(lines: &[Line]) -> u64
     requires year { length lines.now ≤ 12 }
-    requires modest { All Modest lines.now }
+    requires modest { AllByRecursion Modest lines.now }
     ensures { result ≡ outage_units_in lines.now }
 {
     let mut sum = 0;
@@ -51,7 +51,7 @@ fn with_line(totals: Totals, line: &Line) -> Totals
 
 pub(crate) fn totals_of(lines: &[Line]) -> Totals
     requires year { length lines.now ≤ 12 }
-    requires modest { All Modest lines.now }
+    requires modest { AllByRecursion Modest lines.now }
     ensures value { result ≡ totals_of lines.now }
     ensures few { Few 12 result }
 {

@@ -1,5 +1,6 @@
 // Settles two years of one plant on the same terms, `year.txt` and `other.txt` of a folder, and compares them.
 #![tactic(auto)]
+
 ghost use Rattle.std.specs.Prelude.{◌≤◌, length, IfOk};
 
 use book::book::Book;
@@ -11,6 +12,7 @@ use settlement::better::is_better_kept;
 use settlement::lines::{LINE_BYTES, settle_line, totals_line};
 use settlement::run::Run;
 use std::env;
+use std::process::ExitCode;
 use year_file::contents::Contents;
 
 // A year that is being settled, and the bodies of its months.
@@ -173,6 +175,6 @@ fn run(rt: &HostRuntime) -> Result<(), Ended> {
     }
 }
 
-fn main(rt: HostRuntime) -> anyhow::Result<()> {
-    status(&rt, run(&rt))
+fn main(rt: HostRuntime) -> anyhow::Result<ExitCode> {
+    status(run(&rt))
 }

@@ -1,5 +1,6 @@
 // Worked figures, executed: each line has what was asked and what came.
 #![tactic(auto)]
+
 mod texts;
 mod year;
 

@@ -1,9 +1,9 @@
 // How a run ends, and what it prints.
-use anyhow::anyhow;
 use settlement::refused::RunRefusal;
 use std::alloc::AllocError;
 use std::io;
 use std::io::Write;
+use std::process::ExitCode;
 
 // How a run ends that does not reach its end.
 #[derive(Drop)]
@@ -41,10 +41,10 @@ pub fn write_line(rt: &HostRuntime, line: &[u8]) -> Result<(), Ended> {
 }
 
 // What `main` answers: a refusal is told by its line and by the status, anything else on standard error.
-pub fn status(rt: &HostRuntime, ended: Result<(), Ended>) -> anyhow::Result<()> {
+pub fn status(ended: Result<(), Ended>) -> anyhow::Result<ExitCode> {
     match ended {
-        Ok(()) => Ok(()),
-        Err(Ended::Refused) => Err(anyhow!("refused")),
+        Ok(()) => Ok(ExitCode::SUCCESS),
+        Err(Ended::Refused) => Ok(ExitCode::FAILURE),
         Err(Ended::Failed(error)) => Err(error),
     }
 }

@@ -1,6 +1,6 @@
 -- Which slot lists can be assessed, and what rules come to over them.
 use Rattle.std.specs.Prelude.{◌≡◌, ℕ, ◌≤◌, T, List, ◌∷◌, ◌++◌, length, Some, sum_by}
-use Rattle.std.specs.List.{AllByRecursion as All}
+use Rattle.std.specs.List.{AllByRecursion}
 use Rattle.calendar.specs.Calendar.{slots_in}
 use Rattle.records.specs.declared.slot.Slot.{Slot}
 use Rattle.records.specs.Slots.{Within, NoWorse}
@@ -33,13 +33,13 @@ pub record FirstUnfit (assessed : ℕ) (slots : List Slot) (place : ℕ) : Type 
   pub after : List Slot
   pub split : slots ≡ before ++ slot ∷ after
   pub here : length before ≡ place
-  pub fit_before : All (Fit assessed) before
+  pub fit_before : AllByRecursion (Fit assessed) before
   pub unfit : Fit assessed slot → ⊥
 
 -- as many slots as the month has, each fit
 pub record FitSlots (month : OpenMonth) (slots : List Slot) : Type 0 where
   pub counted : slots_in month.year month.month ≡ Some (length slots)
-  pub fit : All (Fit month.assessed) slots
+  pub fit : AllByRecursion (Fit month.assessed) slots
 
 -- when each refusal of a slot list is given
 abbrev pub Refuses : OpenMonth → List Slot → SlotsRefusal → Type 0

@@ -1,6 +1,6 @@
 // A month's slots, assessed.
 ghost use Rattle.std.specs.Prelude.{◌≡◌, ◌≤◌, length, Decides, MatchOption, MatchResult};
-ghost use Rattle.std.specs.List.{AllByRecursion as All};
+ghost use Rattle.std.specs.List.{AllByRecursion};
 ghost use Rattle.records.specs.Slots.{Within};
 ghost use Rattle.rules.specs.Months.{Fit, FirstUnfit, FitSlots, Refuses, Assesses, month_units};
 
@@ -21,7 +21,7 @@ fn is_fit(slot: &Slot, assessed: u32) -> bool
 }
 
 fn first_unfit(slots: &[Slot], assessed: u32) -> Option<usize>
-    ensures { MatchOption result (All (Fit assessed) slots.now) (λ i. FirstUnfit assessed slots.now i) }
+    ensures { MatchOption result (AllByRecursion (Fit assessed) slots.now) (λ i. FirstUnfit assessed slots.now i) }
 {
     for (i, slot) in slots.iter().enumerate() {
         if !is_fit(slot, assessed) {
@@ -48,7 +48,7 @@ fn check_slots(open: &OpenMonth, slots: &[Slot]) -> Result<(), SlotsRefusal>
 // The units of the slots under any rule.
 fn units_of<R: Rule>(rule: &R, slots: &[Slot]) -> u64
     requires few { length slots.now ≤ 1488 }
-    requires within { All Within slots.now }
+    requires within { AllByRecursion Within slots.now }
     ensures value { result ≡ month_units (R.meaning rule.now) slots.now }
     ensures limit { result ≤ 14880000000 }
 {

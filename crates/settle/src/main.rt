@@ -1,5 +1,6 @@
 // Settles the contract year of a folder: the one that the first argument names, or the current one.
 #![tactic(auto)]
+
 use book::book::Book;
 use files::ended::{Ended, refused, status, write_line};
 use files::folder::{BODY_BYTES, open_file, start_run};
@@ -7,6 +8,7 @@ use files::source::Source;
 use settlement::lines::{LINE_BYTES, settle_line, totals_line};
 use settlement::run::Run;
 use std::env;
+use std::process::ExitCode;
 use year_file::contents::Span;
 
 // Settles the next month from the body that follows, which is read into the start of `room`.
@@ -61,6 +63,6 @@ fn run(rt: &HostRuntime) -> Result<(), Ended> {
     }
 }
 
-fn main(rt: HostRuntime) -> anyhow::Result<()> {
-    status(&rt, run(&rt))
+fn main(rt: HostRuntime) -> anyhow::Result<ExitCode> {
+    status(run(&rt))
 }

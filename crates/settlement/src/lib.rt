@@ -1,5 +1,6 @@
 // A contract year settled from its two texts, month by month.
 #![tactic(auto)]
+
 pub mod better;
 pub mod fault;
 pub mod lines;

@@ -1,6 +1,6 @@
 -- A statement line has at most 128 bytes.
 use Rattle.std.proofs.Common.{ℕ, ◌*◌, ◌^◌, ◌<◌, ◌≤◌, List, [], ◌∷◌, length, ℤ, pos, negsuc, neg_ℤ, ◌<ℤ◌, decimal, arith, length-append}
-use Rattle.std.specs.List.{flat_map, AllByRecursion as All}
+use Rattle.std.specs.List.{flat_map, AllByRecursion}
 use Rattle.std.specs.Fmt.{signed_decimal}
 use Rattle.std.proofs.lemmas.Fmt.{length-decimal-le, length_signed_le}
 use Rattle.std.proofs.lemmas.Int.{ints}
@@ -10,7 +10,7 @@ use Rattle.statement.specs.Text.{field, last, statement_text}
 field_short : (n : ℕ) → n < 10 ^ 17 → length (field n) ≤ 18
 field_short n h = omega (arith, length-append (decimal n) (32 ∷ []), length-decimal-le 17 n (omega arith) h (omega arith))
 
-fields_short : (ns : List ℕ) → All (λ n. n < 10 ^ 17) ns → length (flat_map field ns) ≤ 18 * length ns
+fields_short : (ns : List ℕ) → AllByRecursion (λ n. n < 10 ^ 17) ns → length (flat_map field ns) ≤ 18 * length ns
 fields_short [] h = omega arith
 fields_short (n ∷ ns) h = omega (arith, length-append (field n) (flat_map field ns), field_short n h.0, fields_short ns h.1)
 

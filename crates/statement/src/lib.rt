@@ -1,5 +1,6 @@
 // Statement lines: a month, or the totals as month 0, in seven numbers.
 #![tactic(auto)]
+
 mod print;
 mod statement;
 

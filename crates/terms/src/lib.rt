@@ -1,5 +1,6 @@
 // The terms of a contract year, and the same once they are priced.
 #![tactic(auto)]
+
 pub mod contract;
 pub mod figures;
 mod fraction;

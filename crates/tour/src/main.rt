@@ -1,5 +1,6 @@
 // A tour of the calls, for whoever joins the module into a system: one plant from its terms to its totals.
 #![tactic(auto)]
+
 mod acts;
 mod reading;
 mod rule;

@@ -2,7 +2,7 @@
 use Rattle.std.proofs.Common.{◌≡◌, ℕ, ◌+◌, ◌<◌, ◌≤◌, List, [], ◌∷◌, ◌++◌, length, take, drop, Some, None, Ok, Err, Option, Result, sym, refl, ap, ◌∙◌, subst, ⊎_elim, append-nil, arith}
 use Rattle.std.proofs.lemmas.List.{length-take-le, drop_all, drop_more}
 use Rattle.std.proofs.lemmas.Bool.{cases_eq}
-use Rattle.std.specs.List.{AllByRecursion as All}
+use Rattle.std.specs.List.{AllByRecursion}
 use Rattle.text.specs.Front.{Begins}
 use Rattle.text.specs.Files.{GoodAfter, complete, out_of_form, out_of_limits}
 use Rattle.text.proofs.Records as records
@@ -79,7 +79,7 @@ one_verdict (Some n) room text v w a b =
 in_form : (s : Slot) → Within s → InForm s
 in_form s w = record { supply = omega (arith, w.supply); plan = omega (arith, w.plan); offer = omega (arith, w.offer); meter = omega (arith, w.meter) }
 
-all_good : (before slots : List Slot) → All Within slots → GoodAfter body before slots
+all_good : (before slots : List Slot) → AllByRecursion Within slots → GoodAfter body before slots
 all_good before [] h = tt
 all_good before (s ∷ slots) h = (in_form s h.0, h.0, all_good (before ++ (s ∷ [])) slots h.1)
 

@@ -1,6 +1,6 @@
 -- The body of a month.
 use Rattle.std.specs.Prelude.{◌≡◌, ℕ, ◌+◌, ◌≤◌, List, [], ◌∷◌, length, Some, None, Ok, Err, Option, Result, ◌≢◌}
-use Rattle.std.specs.List.{AllByRecursion as All}
+use Rattle.std.specs.List.{AllByRecursion}
 use Rattle.text.specs.Files.{Format, texts, Stop, complete, out_of_form, out_of_limits, StopsAt}
 use Rattle.records.specs.declared.slot.Slot.{Slot}
 use Rattle.year_file.specs.declared.body.BodyRefusal.{BodyRefusal}
@@ -45,7 +45,7 @@ OneVerdict = (count : Option ℕ) (room : ℕ) (text : List ℕ) (v w : Result (
 
 -- what is written of slots within their limits is read as those slots
 abbrev pub ReadsBack : Type 0
-ReadsBack = (slots : List Slot) → All Within slots → Judged (length slots) (body_text slots) (Ok slots)
+ReadsBack = (slots : List Slot) → AllByRecursion Within slots → Judged (length slots) (body_text slots) (Ok slots)
 
 -- a line in form has at most 37 bytes
 abbrev pub ShortLines : Type 0

@@ -1,5 +1,6 @@
 // Yen: what a month pays, what it is charged, and what it is answered with.
 #![tactic(auto)]
+
 ghost use Rattle.std.specs.Prelude.{◌≡◌, ◌+◌, ◌≤◌, pos, ◌-ℤ◌};
 ghost use Rattle.terms.specs.Sound.{Sound};
 ghost use Rattle.yen.specs.Yen.{amount_of, excess, outage_penalty, shortfall_penalty, charge, yen_of, settlement_of};

@@ -1,5 +1,5 @@
 use Rattle.std.proofs.Common.{◌≡◌, ◌-◌, take, sym, ap, subst, arith, rules}
-use Rattle.std.specs.List.{AllByRecursion as All}
+use Rattle.std.specs.List.{AllByRecursion}
 use Rattle.std.proofs.lemmas.List.{length-take}
 use Rattle.book.specs.Limits.{Modest}
 use Rattle.book.proofs.Has.{year, modest_first}
@@ -17,5 +17,5 @@ returns c =
     record {
       value = ap (λ k. take k ls) whole;
       year = omega (arith, length-take (n - 0) ls, year led);
-      modest = subst (λ k. All Modest (take k ls)) (sym whole) (modest_first led n c.requires);
+      modest = subst (λ k. AllByRecursion Modest (take k ls)) (sym whole) (modest_first led n c.requires);
     }
