@@ -3,12 +3,7 @@ use crate::ended::Ended;
 use crate::source::Source;
 use settlement::refused::RunRefusal;
 use settlement::run::Run;
-use settlement::start::start;
-
-// No text of terms has more than 310 bytes, so the first byte after these is refused whatever follows it.
-const TERMS_BYTES: usize = 1_024;
-
-const CONTENTS_BYTES: usize = 252;
+use settlement::start::{CONTENTS_BYTES, TERMS_BYTES, start};
 
 // The bytes of the longest body.
 pub const BODY_BYTES: usize = 60_000;

@@ -9,7 +9,7 @@ use Rattle.year_file.proofs.Entries as contents
 priced_whole : (text : List ℕ) (p : PricedTerms) → Priced (take 1024 text) p → Priced text p
 priced_whole text p h = record { terms = h.terms; read = terms.front_decides text (Ok h.terms) h.read; agreed = h.agreed }
 
-pub first_bytes_decide : FirstBytesDecide
+pub first_bytes_decide : FirstBytesDecide 1024 252
 first_bytes_decide t y (Ok r) (p, (h, opened, c)) = (p, (priced_whole t p h, opened, contents.front_decides y _ c))
 first_bytes_decide t y (Err (run.Terms e)) h = terms.front_decides t (Err e) h
 first_bytes_decide t y (Err (run.Price e)) (u, (h, refused)) = (u, (terms.front_decides t (Ok u) h, refused))

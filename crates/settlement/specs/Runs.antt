@@ -36,9 +36,9 @@ Started terms year (Err (run.Body month e)) = ⊥
 Started terms year (Err run.BytesAfter) = ⊥
 Started terms year (Err (run.Close month e)) = ⊥
 
--- the first 1,024 bytes of the terms and the first 252 of the year decide how a run starts
-abbrev pub FirstBytesDecide : Type 0
-FirstBytesDecide = (terms year : List ℕ) (r : Result Run RunRefusal) → Started (take 1024 terms) (take 252 year) r → Started terms year r
+-- the first m bytes of the terms and the first n of the year decide how a run starts
+abbrev pub FirstBytesDecide : ℕ → ℕ → Type 0
+FirstBytesDecide m n = (terms year : List ℕ) (r : Result Run RunRefusal) → Started (take m terms) (take n year) r → Started terms year r
 
 -- as many slots as the month has, if it is one
 abbrev pub room_for : Option ℕ → ℕ

@@ -8,7 +8,7 @@ use terms::pricing::price;
 use terms_file::reading::read_terms;
 use year_file::contents::read_contents;
 
-// So many bytes of the terms are enough to start a run by: 22 lines in form have at most 330.
+// So many bytes of the terms are enough to start a run by: 22 lines in form have at most 310.
 pub const TERMS_BYTES: usize = 1_024;
 
 // So many bytes of the year are: those of the contents.
@@ -17,7 +17,7 @@ pub const CONTENTS_BYTES: usize = 252;
 // Reads the terms, prices them, reads the contents at the start of the year's text, and opens a book.
 pub fn start(terms: &[u8], year: &[u8]) -> Result<Run, RunRefusal>
     ensures started { Started terms.now year.now result }
-    ensures first_bytes_decide { FirstBytesDecide }
+    ensures first_bytes_decide { FirstBytesDecide TERMS_BYTES CONTENTS_BYTES }
 {
     let terms = read_terms(terms)?;
     let priced = price(&terms)?;
