@@ -1,7 +1,7 @@
 -- The first line out of range, by a walk over the lines.
-use Rattle.std.proofs.Common.{◌≡◌, ℕ, zero, suc, ◌+◌, ◌-◌, ◌<◌, ◌≤◌, Bool, true, false, cond, ◌&&◌, List, length, ℤ, Some, None, sym, refl, ap, ◌∙◌, ⊎_elim, arith}
+use Rattle.std.proofs.Common.{◌≡◌, ℕ, zero, suc, ◌+◌, ◌-◌, ◌<◌, ◌≤◌, Bool, true, false, cond, ◌&&◌, List, length, ℤ, Some, None, Option, sym, refl, ap, ◌∙◌, ⊎_elim, arith}
 use Rattle.std.proofs.lemmas.Bool.{cases_Bool, cases_eq, cond-true, cond-false, and_from, lt-ltb}
-use Rattle.terms.specs.Ranges.{in_range, stands, first_from, first_out}
+use Rattle.terms.specs.Ranges.{in_range, stands, first_from, first_out, FirstOut}
 
 -- the lines from the place i on
 step : (ns : List ℤ) (i : ℕ) → i < 22 → first_from ns (22 - i) i ≡ cond (in_range ns i) (first_from ns (22 - (i + 1)) (i + 1)) (Some (i + 1))
@@ -50,6 +50,27 @@ none_from ns (suc n) k each = cond-true _ _ _ (each k (omega arith) (omega arith
 pub none_out : (ns : List ℤ) → ((k : ℕ) → k < 22 → in_range ns k ≡ true) → first_out ns ≡ None
 unfolding first_out
 none_out ns each = none_from ns 22 0 (λ j l h. each j (omega arith))
+
+-- the line that a walk stops at is out of range, and those before it are not
+some_from : (ns : List ℤ) (n k l : ℕ) → first_from ns n k ≡ Some l → (k + 1 ≤ l) × (l ≤ k + n) × (in_range ns (l - 1) ≡ false) × ((j : ℕ) → k ≤ j → j + 1 < l → in_range ns j ≡ true)
+unfolding first_from
+some_from ns zero k l e = let n : ◌≡◌ {A = ℕ} 0 1 = cc in absurd (omega arith)
+some_from ns (suc n) k l e =
+    ⊎_elim
+    (λ here.
+    let h = some_from ns n (k + 1) l (sym (cond-true _ _ _ here) ∙ e) in
+    (omega (arith, h.0), omega (arith, h.1), h.2, λ j from before. ⊎_elim (λ same. ap (in_range ns) (sym same) ∙ here) (λ other. h.3 j (omega arith) before) (cases_eq k j)))
+    (λ out.
+    let s : Some (k + 1) ≡ Some l = sym (cond-false _ _ _ out) ∙ e in
+    let same : k + 1 ≡ l = cc in
+    let place : l - 1 ≡ k = omega arith in
+    (omega arith, omega arith, ap (in_range ns) place ∙ out, λ j from before. absurd (omega arith)))
+    (cases_Bool (in_range ns k))
+
+pub is_first : (ns : List ℤ) (r : Option ℕ) → r ≡ first_out ns → FirstOut ns r
+unfolding first_out
+is_first ns None e = all_in ns (sym e)
+is_first ns (Some l) e = let h = some_from ns 22 0 l (sym e) in (omega (arith, h.0), omega (arith, h.1), h.2, λ k before. h.3 k (omega arith) before)
 
 -- what a test of a number that is there says
 pub range_told : (ns : List ℤ) (k : ℕ) (b : Bool) → k < 22 → k < length ns → b ≡ (stands ns k && in_range ns k) → b ≡ in_range ns k

@@ -1,5 +1,5 @@
 -- The 22 numbers of the terms, and their ranges.
-use Rattle.std.specs.Prelude.{ℕ, zero, suc, ◌+◌, Bool, true, cond, ◌&&◌, List, [], ◌∷◌, length, ℤ, pos, negsuc, ◌*ℤ◌, Some, None, Option, ◌==◌, int_le, nat_lt, slice_index_or}
+use Rattle.std.specs.Prelude.{◌≡◌, ℕ, zero, suc, ◌+◌, ◌-◌, ◌<◌, ◌≤◌, Bool, true, false, cond, ◌&&◌, List, [], ◌∷◌, length, ℤ, pos, negsuc, ◌*ℤ◌, Some, None, Option, ◌==◌, int_le, nat_lt, slice_index_or}
 use Rattle.terms.specs.declared.terms.Terms.{Terms}
 
 -- the numbers in the order of a file of terms
@@ -40,3 +40,8 @@ first_from ns (suc n) k = cond (in_range ns k) (first_from ns n (k + 1)) (Some (
 
 unfoldable pub first_out : List ℤ → Option ℕ
 first_out ns = first_from ns 22 0
+
+-- r is the first line whose number is out of range, if any is
+abbrev pub FirstOut : List ℤ → Option ℕ → Type 0
+FirstOut ns None = (k : ℕ) → k < 22 → in_range ns k ≡ true
+FirstOut ns (Some line) = (1 ≤ line) × (line ≤ 22) × (in_range ns (line - 1) ≡ false) × ((k : ℕ) → k + 1 < line → in_range ns k ≡ true)

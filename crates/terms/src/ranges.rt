@@ -1,6 +1,6 @@
 // The ranges of the terms.
 ghost use Rattle.std.specs.Prelude.{◌≡◌, ◌&&◌};
-ghost use Rattle.terms.specs.Ranges.{first_out, in_range, numbers, stands};
+ghost use Rattle.terms.specs.Ranges.{FirstOut, first_out, in_range, numbers, stands};
 
 use crate::terms::Terms;
 
@@ -90,7 +90,8 @@ impl Terms {
 
 // The first line whose number is out of its range; lines count from 1.
 pub fn first_out(terms: &Terms) -> Option<usize>
-    ensures { result ≡ first_out (numbers terms.now) }
+    ensures value { result ≡ first_out (numbers terms.now) }
+    ensures first { FirstOut (numbers terms.now) result }
 {
     let numbers = terms.numbers();
     for i in 0..COUNT {

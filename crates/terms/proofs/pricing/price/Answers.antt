@@ -6,21 +6,21 @@ use Rattle.terms.specs.Fractions.{cut}
 use Rattle.terms.proofs.pricing.price.Goals as goal
 
 pub rate_factor-requires : goal.rate_factor-requires
-rate_factor-requires c = price_in_range _ (sym c.in_default.ensures)
+rate_factor-requires c = price_in_range _ (sym c.in_default.ensures.value)
 
 pub total-total-requires : goal.total-total-requires
 total-total-requires c =
-    record { ranges = price_in_range _ (sym c.in_default.ensures); rate = c.in-Some-rate_factor.ensures.small }
+    record { ranges = price_in_range _ (sym c.in_default.ensures.value); rate = c.in-Some-rate_factor.ensures.small }
 
 pub overflow_cast-result : goal.overflow_cast-result
-overflow_cast-result c = omega (arith, year _ (sym c.in_default.ensures))
+overflow_cast-result c = omega (arith, year _ (sym c.in_default.ensures.value))
 
 pub overflow_cast-result-2 : goal.overflow_cast-result-2
-overflow_cast-result-2 c = omega (arith, hours _ (sym c.in_default.ensures))
+overflow_cast-result-2 c = omega (arith, hours _ (sym c.in_default.ensures.value))
 
 pub invariant_of-result : goal.invariant_of-result
 invariant_of-result c =
-    let e = sym c.in_default.ensures in
+    let e = sym c.in_default.ensures.value in
     let t = c.args.terms.now in
     record {
       named = ((plant t e).0, (plant t e).1, (year t e).0, (year t e).1);
@@ -41,6 +41,6 @@ returns c =
     let is = c.total-total.ensures.value in
     record {
       contract =
-          sym (contract_is c.args.terms.now c.in-Some-rate_factor.rate _ (sym c.in_default.ensures) some (ap cut is) c.if-price-gt-MAX_PRICE.false c.if-terms-full.false);
+          sym (contract_is c.args.terms.now c.in-Some-rate_factor.rate _ (sym c.in_default.ensures.value) some (ap cut is) c.if-price-gt-MAX_PRICE.false c.if-terms-full.false);
       cut = (c.in-Some-rate_factor.rate, (some, cut_whole c.args.terms.now c.in-Some-rate_factor.rate _ is c.total-total.ensures.small.some));
     }
