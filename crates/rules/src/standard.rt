@@ -1,6 +1,6 @@
 // What each of the standard rules gives a slot.
 ghost use Rattle.rules.specs.Standard.{outage_units, market_units, dispatch_units};
-ghost use Rattle.std.proofs.Common.{rules, arith};
+ghost use Rattle.std.proofs.Common.{rules};
 
 use crate::assessed::{DispatchRule, MarketRule, OutageRule};
 use crate::rule::Rule;
@@ -13,11 +13,11 @@ impl Rule for OutageRule {
 
     ghost meaning = { λ rule slot. outage_units rule.assessed slot };
 
-    ghost numbered = { first_of (Prim.search rules, Prim.grind (arith, Self.row.coded.inj)) };
+    ghost numbered = { Prim.search rules };
 
-    ghost range = { first_of (Prim.search rules, Prim.grind (arith, Self.row.coded.inj)) };
+    ghost range = { Prim.search rules };
 
-    ghost no_worse = { first_of (Prim.search rules, Prim.grind (arith, Self.row.coded.inj)) };
+    ghost no_worse = { Prim.search rules };
 
     fn own_number() -> u8 {
         Self::NUMBER
@@ -40,11 +40,11 @@ impl Rule for MarketRule {
 
     ghost meaning = { λ rule slot. market_units rule.assessed slot };
 
-    ghost numbered = { first_of (Prim.search rules, Prim.grind (arith, Self.row.coded.inj)) };
+    ghost numbered = { Prim.search rules };
 
-    ghost range = { first_of (Prim.search rules, Prim.grind (arith, Self.row.coded.inj)) };
+    ghost range = { Prim.search rules };
 
-    ghost no_worse = { first_of (Prim.search rules, Prim.grind (arith, Self.row.coded.inj)) };
+    ghost no_worse = { Prim.search rules };
 
     fn own_number() -> u8 {
         Self::NUMBER
@@ -72,11 +72,11 @@ impl Rule for DispatchRule {
 
     ghost meaning = { λ rule slot. dispatch_units rule.assessed slot };
 
-    ghost numbered = { first_of (Prim.search rules, Prim.grind (arith, Self.row.coded.inj)) };
+    ghost numbered = { Prim.search rules };
 
-    ghost range = { first_of (Prim.search rules, Prim.grind (arith, Self.row.coded.inj)) };
+    ghost range = { Prim.search rules };
 
-    ghost no_worse = { first_of (Prim.search rules, Prim.grind (arith, Self.row.coded.inj)) };
+    ghost no_worse = { Prim.search rules };
 
     fn own_number() -> u8 {
         Self::NUMBER
