@@ -1,5 +1,5 @@
 -- What holds of any two books.
-use Rattle.std.proofs.Common.{◌≡◌, ℕ, zero, suc, ◌+◌, ◌<◌, ◌≤◌, ◌⊎◌, List, [], ◌∷◌, reverse, length, get_or, take, ℤ, pos, ◌+ℤ◌, sym, refl, ap, ◌∙◌, subst, inl, inr, div-mul-le_self, add-one, arith}
+use Rattle.std.proofs.Common.{◌≡◌, ℕ, zero, suc, ◌+◌, ◌<◌, ◌≤◌, ◌⊎◌, List, [], ◌∷◌, reverse, length, get_or, take, pos, ◌+ℤ◌, sym, refl, ap, ◌∙◌, subst, inl, inr, div-mul-le_self, add-one, arith}
 use mathlib.Core.List.{reverse-cons}
 use native.Mathlib.Decide.{dec_lt}
 use lib.ListN.{length-reverse}

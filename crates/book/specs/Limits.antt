@@ -1,5 +1,5 @@
 -- How large the figures of a line, and of the totals of some months, can get.
-use Rattle.std.specs.Prelude.{ℕ, ◌*◌, ◌≤◌, ℤ, pos, neg_ℤ, ◌≤ℤ◌}
+use Rattle.std.specs.Prelude.{ℕ, ◌*◌, ◌≤◌, pos, neg_ℤ, ◌≤ℤ◌}
 use Rattle.book.specs.declared.line.Line.{Line}
 use Rattle.book.specs.declared.line.Totals.{Totals}
 

@@ -1,7 +1,7 @@
 -- The first bytes of two texts decide how a run starts.
 use Rattle.std.proofs.Common.{ℕ, List, take, Ok, Err}
 use Rattle.settlement.specs.declared.refused.RunRefusal.TheVariants as run
-use Rattle.settlement.specs.Runs.{Priced, Started, FirstBytesDecide}
+use Rattle.settlement.specs.Runs.{Priced, FirstBytesDecide}
 use Rattle.terms.specs.declared.contract.PricedTerms.{PricedTerms}
 use Rattle.terms_file.proofs.Verdicts as terms
 use Rattle.year_file.proofs.Entries as contents

@@ -2,7 +2,7 @@
 use Rattle.std.proofs.Common.{◌≡◌, ℕ, ◌+◌, ◌*◌, ◌<◌, ◌≤◌, List, [], ◌∷◌, ◌++◌, length, take, drop, sym, refl, ap, ◌∙◌, subst, append_assoc, mul-le-mul_left, mul-suc, arith, length-append}
 use native.Mathlib.Decide.{dec_le}
 use Rattle.std.proofs.lemmas.List.{take_all, take-append-le, take-append-drop, take_at, length-take-le}
-use Rattle.text.specs.Files.{Format, texts_from, texts, GoodAfter, Upto, Next, Stop, complete, out_of_form, out_of_limits, StopsAt}
+use Rattle.text.specs.Files.{Format, texts_from, texts, GoodAfter, Upto, Stop, complete, out_of_form, out_of_limits, StopsAt}
 
 -- what begins a text, and is no longer than a front of it, begins the front
 begins_front : (w m front more : List ℕ) → length w ≤ length front → front ++ more ≡ w ++ m → front ≡ w ++ drop (length w) front
