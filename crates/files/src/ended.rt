@@ -1,4 +1,6 @@
 // How a run ends, and what it prints.
+ghost use Rattle.files.specs.Ends.{EndsProcess};
+
 use settlement::refused::RunRefusal;
 use std::alloc::AllocError;
 use std::io;
@@ -41,7 +43,9 @@ pub fn write_line(rt: &HostRuntime, line: &[u8]) -> Result<(), Ended> {
 }
 
 // What `main` answers: a refusal is told by its line and by the status, anything else on standard error.
-pub fn status(ended: Result<(), Ended>) -> anyhow::Result<ExitCode> {
+pub fn status(ended: Result<(), Ended>) -> anyhow::Result<ExitCode>
+    ensures { EndsProcess ended result }
+{
     match ended {
         Ok(()) => Ok(ExitCode::SUCCESS),
         Err(Ended::Refused) => Ok(ExitCode::FAILURE),

@@ -1,4 +1,7 @@
 // The files of a folder.
+ghost use Rattle.std.specs.Prelude.{IfOk};
+ghost use Rattle.files.specs.Starts.{StartsFromFronts};
+
 use crate::ended::Ended;
 use crate::source::Source;
 use settlement::refused::RunRefusal;
@@ -18,7 +21,9 @@ pub fn start_run(
     rt: &HostRuntime,
     folder: &str,
     year: &mut Source,
-) -> Result<Result<Run, RunRefusal>, Ended> {
+) -> Result<Result<Run, RunRefusal>, Ended>
+    ensures { IfOk result (StartsFromFronts TERMS_BYTES CONTENTS_BYTES) }
+{
     let mut terms = [0u8; TERMS_BYTES];
     let terms_bytes = open_file(rt, folder, "terms.txt")?.fill(&mut terms)?;
     let mut contents = [0u8; CONTENTS_BYTES];

@@ -1,5 +1,6 @@
 // A file that is read piece by piece. One that is missing counts as empty.
-ghost use Rattle.std.specs.Prelude.{◌≤◌, length, IfOk};
+ghost use Rattle.std.specs.Prelude.{◌≡◌, ◌≤◌, true, length, IfOk, IsTrue};
+ghost use Rattle.files.specs.Sources.{is_missing};
 
 use std::fs::File;
 use std::io;
@@ -26,7 +27,8 @@ impl Source {
 
     // Reads until the buffer is full or the file ends, and answers how many bytes came.
     pub fn fill(&mut self, buf: &mut [u8]) -> io::Result<usize>
-        ensures { IfOk result (λ n. n ≤ length buf.new) }
+        ensures within { IfOk result (λ n. n ≤ length buf.new) }
+        ensures missing { IsTrue (is_missing self.old) → (result ≡ Ok 0) × (buf.new ≡ buf.old) }
     {
         match &mut self.file {
             Some(file) => fill_from(file, buf),
@@ -36,13 +38,17 @@ impl Source {
 
     // The same for the first bytes of the buffer, at most as many as it has.
     pub fn fill_front(&mut self, buf: &mut [u8], bytes: usize) -> io::Result<usize>
-        ensures { IfOk result (λ n. n ≤ length buf.new) }
+        ensures within { IfOk result (λ n. n ≤ length buf.new) }
+        ensures few { IfOk result (λ n. n ≤ bytes) }
+        ensures missing { IsTrue (is_missing self.old) → (result ≡ Ok 0) × (buf.new ≡ buf.old) }
     {
         let end = bytes.min(buf.len());
         self.fill(&mut buf[0..end])
     }
 
-    pub fn is_at_end(&mut self) -> io::Result<bool> {
+    pub fn is_at_end(&mut self) -> io::Result<bool>
+        ensures missing { IsTrue (is_missing self.old) → result ≡ Ok true }
+    {
         let mut next = [0u8; 1];
         Ok(self.fill(&mut next)? == 0)
     }

@@ -144,10 +144,10 @@ same_answer front more room (complete good (b ∷ rest)) h = refl
 same_answer front more room (out_of_form good rest) h = refl
 same_answer front more room (out_of_limits good rest) h = refl
 
--- the first 1,024 bytes of a text decide what is said of it
-pub front_decides : (text : List ℕ) (said : Result Terms TermsRefusal) → Verdict (take 1024 text) said → Verdict text said
-front_decides text said =
-    fronts.by_front (λ t. Judged t (read said)) 1024
+-- the first bytes of a text decide what is said of it, if they are more than all lines have
+pub front_decides : (m : ℕ) → 330 < m → (text : List ℕ) (said : Result Terms TermsRefusal) → Verdict (take m text) said → Verdict text said
+front_decides m over text said =
+    fronts.by_front (λ t. Judged t (read said)) m
     (λ front more long v. record {
       stop = fronts.further more v.stop;
       stops = fronts.front_stops file 22 15 (λ k z l. short_line k z) front more (omega (arith, long)) v.stop v.stops;

@@ -95,10 +95,10 @@ same_answer more (complete spans rest) = refl
 same_answer more (out_of_form spans rest) = refl
 same_answer more (out_of_limits spans rest) = refl
 
--- the first 252 bytes of a text decide what is said of its contents
-pub front_decides : (text : List ℕ) (said : Result (List Span) ContentsRefusal) → ContentsVerdict (take 252 text) said → ContentsVerdict text said
-front_decides text said =
-    fronts.by_front (λ t. ContentsVerdict t said) 252
+-- the first bytes of a text decide what is said of its contents, if they are as many as these have
+pub front_decides : (m : ℕ) → 252 ≤ m → (text : List ℕ) (said : Result (List Span) ContentsRefusal) → ContentsVerdict (take m text) said → ContentsVerdict text said
+front_decides m enough text said =
+    fronts.by_front (λ t. ContentsVerdict t said) m
     (λ front more long v. record {
       stop = fronts.further more v.stop;
       stops = fronts.front_stops contents 12 21 (λ k s l f. omega (arith, entry_long k s l f)) front more (omega (arith, long)) v.stop v.stops;

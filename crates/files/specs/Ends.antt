@@ -1,0 +1,13 @@
+-- How a run that ended so ends its process.
+use Rattle.std.specs.Prelude.{◌≡◌, Ok, Err, Result, IsOkAnd}
+use Rattle.std.specs.Process.{exit_status}
+use Rattle.std.specs.declared.process.ExitCode.{ExitCode}
+use Rattle.anyhow.specs.declared.error.Error.{Error}
+use Rattle.files.specs.declared.ended.Ended.{Ended}
+use Rattle.files.specs.declared.ended.Ended.TheVariants.{Refused, Failed}
+
+-- with status 0 where it came to its end, with 1 after a refusal, and else with the error that is told
+abbrev pub EndsProcess : Result (Unit {0}) Ended → Result ExitCode Error → Type 0
+EndsProcess (Ok u) r = IsOkAnd r (λ code. exit_status code ≡ 0)
+EndsProcess (Err Refused) r = IsOkAnd r (λ code. exit_status code ≡ 1)
+EndsProcess (Err (Failed error)) r = r ≡ Err error
