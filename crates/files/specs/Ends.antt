@@ -1,5 +1,5 @@
 -- How a run that ended so ends its process.
-use Rattle.std.specs.Prelude.{◌≡◌, Ok, Err, Result, IsOkAnd}
+use Rattle.std.specs.Prelude.{◌≡◌, Bool, true, false, Ok, Err, Result, IsOkAnd}
 use Rattle.std.specs.Process.{exit_status}
 use Rattle.std.specs.declared.process.ExitCode.{ExitCode}
 use Rattle.anyhow.specs.declared.error.Error.{Error}
@@ -11,3 +11,8 @@ abbrev pub EndsProcess : Result (Unit {0}) Ended → Result ExitCode Error → T
 EndsProcess (Ok u) r = IsOkAnd r (λ code. exit_status code ≡ 0)
 EndsProcess (Err Refused) r = IsOkAnd r (λ code. exit_status code ≡ 1)
 EndsProcess (Err (Failed error)) r = r ≡ Err error
+
+-- an error is told when the run ends; a refusal has been told by its line
+abbrev pub is_error : Ended → Bool
+is_error Refused = false
+is_error (Failed error) = true

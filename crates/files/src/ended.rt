@@ -1,5 +1,6 @@
 // How a run ends, and what it prints.
-ghost use Rattle.files.specs.Ends.{EndsProcess};
+ghost use Rattle.std.specs.Prelude.{IfErr, IsTrue};
+ghost use Rattle.files.specs.Ends.{EndsProcess, is_error};
 
 use settlement::refused::RunRefusal;
 use std::alloc::AllocError;
@@ -16,12 +17,16 @@ pub enum Ended {
 }
 
 impl From<io::Error> for Ended {
+    ghost from_gives = { λ _ ended. IsTrue (is_error ended) };
+
     fn from(error: io::Error) -> Ended {
         Ended::Failed(error.into())
     }
 }
 
 impl From<AllocError> for Ended {
+    ghost from_gives = { λ _ ended. IsTrue (is_error ended) };
+
     fn from(error: AllocError) -> Ended {
         Ended::Failed(error.into())
     }
@@ -37,7 +42,9 @@ pub fn refused(rt: &HostRuntime, refusal: &RunRefusal) -> Ended {
     }
 }
 
-pub fn write_line(rt: &HostRuntime, line: &[u8]) -> Result<(), Ended> {
+pub fn write_line(rt: &HostRuntime, line: &[u8]) -> Result<(), Ended>
+    ensures { IfErr result (λ ended. IsTrue (is_error ended)) }
+{
     rt.stdout().write_all(line)?;
     Ok(())
 }

@@ -1,5 +1,6 @@
 // The files of a folder.
-ghost use Rattle.std.specs.Prelude.{IfOk};
+ghost use Rattle.std.specs.Prelude.{IfErr, IfOk, IsTrue};
+ghost use Rattle.files.specs.Ends.{is_error};
 ghost use Rattle.files.specs.Starts.{StartsFromFronts};
 
 use crate::ended::Ended;
@@ -11,7 +12,9 @@ use settlement::start::{CONTENTS_BYTES, TERMS_BYTES, start};
 // The bytes of the longest body.
 pub const BODY_BYTES: usize = 60_000;
 
-pub fn open_file(rt: &HostRuntime, folder: &str, name: &str) -> Result<Source, Ended> {
+pub fn open_file(rt: &HostRuntime, folder: &str, name: &str) -> Result<Source, Ended>
+    ensures { IfErr result (λ ended. IsTrue (is_error ended)) }
+{
     let path = format!(in rt.alloc(); "{folder}/{name}")?;
     Ok(Source::open(rt, path.as_str())?)
 }
@@ -22,7 +25,8 @@ pub fn start_run(
     folder: &str,
     year: &mut Source,
 ) -> Result<Result<Run, RunRefusal>, Ended>
-    ensures { IfOk result (StartsFromFronts TERMS_BYTES CONTENTS_BYTES) }
+    ensures started { IfOk result (StartsFromFronts TERMS_BYTES CONTENTS_BYTES) }
+    ensures error { IfErr result (λ ended. IsTrue (is_error ended)) }
 {
     let mut terms = [0u8; TERMS_BYTES];
     let terms_bytes = open_file(rt, folder, "terms.txt")?.fill(&mut terms)?;
