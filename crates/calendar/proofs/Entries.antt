@@ -1,5 +1,5 @@
 -- The table as its rule makes it: each entry adds the length of its month to the one before.
-use Rattle.std.proofs.Common.{◌≡◌, ℕ, zero, suc, ◌+◌, ◌<◌, List, [], ◌∷◌, get_or, sym, refl, ap, ◌∙◌, le_of_suc-le-suc, not-suc-le-zero, add-zero, add-suc, suc-add, zero-add}
+use Rattle.std.proofs.Common.{◌≡◌, ℕ, zero, suc, ◌+◌, ◌<◌, List, [], ◌∷◌, length, arith, get_or, sym, refl, ap, ◌∙◌, le_of_suc-le-suc, not-suc-le-zero, add-zero, add-suc, suc-add, zero-add}
 use Rattle.calendar.specs.Calendar.{first_day, days_after}
 
 -- n entries from the month i on, which begins on the day d
@@ -18,3 +18,8 @@ from (suc n) i d e (suc k) h =
 pub at : (n k : ℕ) → k < n → get_or (entries n 0 0) k 0 ≡ first_day k
 unfolding first_day
 at n k h = from n 0 0 refl k h ∙ ap first_day (zero-add k)
+
+pub length_entries : (n i d : ℕ) → length (entries n i d) ≡ n
+unfolding entries
+length_entries zero i d = refl
+length_entries (suc n) i d = grind (arith, length_entries n (suc i) (d + days_after i))

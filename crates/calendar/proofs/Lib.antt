@@ -1,3 +1,4 @@
 pub mod Entries
+pub mod LookUp
 pub mod Months
 pub mod Slots

@@ -1,12 +1,13 @@
 // When slots are no worse than others.
-ghost use Rattle.std.specs.Prelude.{T, Decides};
+// Kept as functions with definitions: no plainer as a `PartialOrd`, where `<=` would hide what is compared.
+ghost use Rattle.std.specs.Prelude.{◌↔◌, IsTrue};
 ghost use Rattle.std.specs.List.{AllZip};
 ghost use Rattle.records.specs.Slots.{NoWorse, NoWorseOutage, NoWorseSupply};
 
 use crate::slot::{Outage, Slot};
 
 fn is_no_worse_outage(b: Outage, a: Outage) -> bool
-    ensures { Decides result (NoWorseOutage b a) }
+    ensures { IsTrue result ↔ NoWorseOutage b a }
 {
     match (b, a) {
         (Outage::PlannedStop, Outage::UnplannedStop) => true,
@@ -16,7 +17,7 @@ fn is_no_worse_outage(b: Outage, a: Outage) -> bool
 }
 
 fn is_supply_no_worse(b: &Slot, a: &Slot) -> bool
-    ensures { Decides result (NoWorseSupply b.now a.now) }
+    ensures { IsTrue result ↔ NoWorseSupply b.now a.now }
 {
     match b.outage {
         Outage::PlannedStop | Outage::UnplannedStop => a.supply <= b.supply,
@@ -26,14 +27,14 @@ fn is_supply_no_worse(b: &Slot, a: &Slot) -> bool
 
 // Whether `b` is true only if `a` is.
 fn only_if(b: bool, a: bool) -> bool
-    ensures { Decides result (T b → T a) }
+    ensures { IsTrue result ↔ (IsTrue b → IsTrue a) }
 {
     a || !b
 }
 
 // Whether the slot `b` is no worse than the slot `a`.
 pub fn is_no_worse(b: &Slot, a: &Slot) -> bool
-    ensures { Decides result (NoWorse b.now a.now) }
+    ensures { IsTrue result ↔ NoWorse b.now a.now }
 {
     is_no_worse_outage(b.outage, a.outage)
         && only_if(b.low_reserve, a.low_reserve)
@@ -47,15 +48,7 @@ pub fn is_no_worse(b: &Slot, a: &Slot) -> bool
 
 // Whether there are as many slots, each no worse than the one in its place.
 pub fn are_no_worse(better: &[Slot], worse: &[Slot]) -> bool
-    ensures { Decides result (AllZip NoWorse better.now worse.now) }
+    ensures { IsTrue result ↔ AllZip NoWorse better.now worse.now }
 {
-    if better.len() != worse.len() {
-        return false;
-    }
-    for i in 0..better.len() {
-        if !is_no_worse(&better[i], &worse[i]) {
-            return false;
-        }
-    }
-    true
+    better.len() == worse.len() && better.iter().zip(worse).all(|(b, a)| is_no_worse(b, a))
 }

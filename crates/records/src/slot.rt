@@ -1,5 +1,5 @@
 // One half hour of a plant.
-ghost use Rattle.std.specs.Prelude.{Decides};
+ghost use Rattle.std.specs.Prelude.{◌↔◌, IsTrue};
 ghost use Rattle.records.specs.Slots.{Within};
 
 // The most kW of a slot.
@@ -39,7 +39,7 @@ pub struct Slot {
 }
 
 impl Slot {
-    // A slot of zeros, to make room for others.
+    // A slot of zeros, to make room for others. Kept as a constant: a `Default` would let it pass for a reading.
     pub const EMPTY: Slot = Slot {
         supply: 0,
         plan: 0,
@@ -53,7 +53,7 @@ impl Slot {
 
     // Whether each number is at most its limit.
     pub fn is_within(&self) -> bool
-        ensures { Decides result (Within self.now) }
+        ensures { IsTrue result ↔ Within self.now }
     {
         self.supply <= MOST_POWER
             && self.plan <= MOST_POWER

@@ -1,9 +1,22 @@
 // What a refused call tells its caller.
 #![tactic(auto)]
 
+ghost use Rattle.std.specs.Prelude.{Some};
+ghost use Rattle.refusal.specs.Text.{refusal_text};
+
+use std::fmt;
+
 // The number of the refusal, and the place that it speaks of: a line, a month or a slot, or 0 where it names none.
 #[derive(Clone, Copy, Debug, PartialEq, Eq)]
 pub struct Refusal {
     pub number: u8,
     pub place: usize,
+}
+
+impl fmt::Display for Refusal {
+    ghost output = { λ r. Some (refusal_text r) };
+
+    fn fmt<W: fmt::Write>(&self, f: &mut fmt::Formatter<W>) -> fmt::Result {
+        write!(f, "{} at {}", self.number, self.place)
+    }
 }

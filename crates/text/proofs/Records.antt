@@ -1,7 +1,7 @@
 -- The good records of a text end in one place.
-use Rattle.std.proofs.Common.{◌≡◌, ℕ, ◌+◌, ◌<◌, ◌≤◌, List, [], ◌∷◌, ◌++◌, length, take, drop, set, sym, refl, ap, ◌∙◌, subst, append_assoc, append-nil, add-zero, arith, length-append, length-set}
+use Rattle.std.proofs.Common.{◌≡◌, ℕ, ◌+◌, ◌<◌, ◌≤◌, List, [], ◌∷◌, ◌++◌, length, take, set, sym, refl, ap, ◌∙◌, subst, append_assoc, append-nil, add-zero, arith, length-append, length-set}
 use Rattle.std.proofs.lemmas.List.{length-take-le, take_more_set, take_all}
-use Rattle.text.specs.Front.{Begins}
+use Rattle.text.specs.Front.{Begins, NoneFirst}
 use Rattle.text.specs.Files.{Format, texts_from, texts, GoodAfter, Upto, Next, NoneNext, BadNext, Stop, complete, out_of_form, out_of_limits, StopsAt, OneRecord}
 
 abbrev good_of : {X : Type 0} → Stop X → List X
@@ -41,38 +41,36 @@ module _ {X : Type 0} (f : Format X) where
     each = good_push [] good x u.each n.fit g;
   }
 
-  -- the first i records of a list are the good ones before the place `at`
-  pub record Sofar (text : List ℕ) (xs : List X) (i at : ℕ) : Type 0 where
+  -- the first i records of a list are the good ones before the rest
+  pub record Sofar (text : List ℕ) (xs : List X) (i : ℕ) (rest : List ℕ) : Type 0 where
     pub count : i ≤ length xs
-    pub place : at ≤ length text
-    pub upto : Upto f text (take i xs) (drop at text)
+    pub upto : Upto f text (take i xs) rest
 
-  pub sofar_none : (text : List ℕ) (xs : List X) → Sofar text xs 0 0
-  sofar_none text xs = record { count = omega arith; place = omega arith; upto = upto_none text }
+  pub sofar_none : (text : List ℕ) (xs : List X) → Sofar text xs 0 text
+  sofar_none text xs = record { count = omega arith; upto = upto_none text }
 
-  module _ {text : List ℕ} {xs : List X} {i at : ℕ} (s : Sofar text xs i at) where
+  module _ {text : List ℕ} {xs : List X} {i : ℕ} {rest : List ℕ} (s : Sofar text xs i rest) where
     long : i ≡ length (take i xs)
     long = sym (length-take-le i xs s.count)
 
     -- the record that begins there is the next one
-    next_of : {x : X} {rest more : List ℕ} → Begins (f.write i) (f.Fit i) x rest more → Next f (take i xs) x rest more
-    next_of {x} {rest} {more} b = subst (λ (j : ℕ). Begins (f.write j) (f.Fit j) x rest more) long b
+    next_of : {x : X} {more : List ℕ} → Begins (f.write i) (f.Fit i) x rest more → Next f (take i xs) x rest more
+    next_of {x} {more} b = subst (λ (j : ℕ). Begins (f.write j) (f.Fit j) x rest more) long b
 
-    pub sofar_more : {x : X} {next : ℕ} → i < length xs → Begins (f.write i) (f.Fit i) x (drop at text) (drop next text) → next ≤ length text → f.Good (take i xs) x → Sofar text (set xs i x) (i + 1) next
-    sofar_more {x} {next} l b to g = record {
+    pub sofar_more : {x : X} {more : List ℕ} → i < length xs → Begins (f.write i) (f.Fit i) x rest more → f.Good (take i xs) x → Sofar text (set xs i x) (i + 1) more
+    sofar_more {x} {more} l b g = record {
       count = simp length-set (omega arith);
-      place = to;
-      upto = subst (λ good. Upto f text good (drop next text)) (sym (take_more_set xs i x l)) (upto_more s.upto (next_of b) g);
+      upto = subst (λ good. Upto f text good more) (sym (take_more_set xs i x l)) (upto_more s.upto (next_of b) g);
     }
 
     module _ (n : ℕ) (asks : length xs ≡ n) where
-      pub stops_complete : n ≤ i → StopsAt f n text (complete xs (drop at text))
-      stops_complete l = (subst (λ good. Upto f text good (drop at text)) (take_all i xs (omega arith)) s.upto, asks)
+      pub stops_complete : n ≤ i → StopsAt f n text (complete xs rest)
+      stops_complete l = (subst (λ good. Upto f text good rest) (take_all i xs (omega arith)) s.upto, asks)
 
-      pub stops_form : i < n → ((x : X) (more : List ℕ) → Begins (f.write i) (f.Fit i) x (drop at text) more → ⊥) → StopsAt f n text (out_of_form (take i xs) (drop at text))
-      stops_form l none = (s.upto, omega (arith, long), subst (λ (j : ℕ). (x : X) (more : List ℕ) → Begins (f.write j) (f.Fit j) x (drop at text) more → ⊥) long none)
+      pub stops_form : i < n → NoneFirst (Begins (f.write i) (f.Fit i)) rest → StopsAt f n text (out_of_form (take i xs) rest)
+      stops_form l none = (s.upto, omega (arith, long), subst (λ (j : ℕ). NoneFirst (Begins (f.write j) (f.Fit j)) rest) long none)
 
-      pub stops_limits : {x : X} {more : List ℕ} → i < n → Begins (f.write i) (f.Fit i) x (drop at text) more → (f.Good (take i xs) x → ⊥) → StopsAt f n text (out_of_limits (take i xs) (drop at text))
+      pub stops_limits : {x : X} {more : List ℕ} → i < n → Begins (f.write i) (f.Fit i) x rest more → (f.Good (take i xs) x → ⊥) → StopsAt f n text (out_of_limits (take i xs) rest)
       stops_limits {x} {more} l b barred = (s.upto, omega (arith, long), record { bad = x; more = more; next = next_of b; barred = barred })
 
   -- no good record comes after these, unless there are n already

@@ -1,6 +1,6 @@
 -- Files of records: the texts of the records one after the other.
 use Rattle.std.specs.Prelude.{◌≡◌, ℕ, ◌+◌, ◌<◌, List, [], ◌∷◌, ◌++◌, length}
-use Rattle.text.specs.Front.{Begins}
+use Rattle.text.specs.Front.{Begins, NoneFirst}
 
 -- How records X stand in a file. Places count from 0.
 pub record Format (X : Type 0) : Type 1 where
@@ -35,7 +35,7 @@ Next f before x rest more = Begins (f.write (length before)) (f.Fit (length befo
 
 -- no record in form comes next
 abbrev pub NoneNext : {X : Type 0} → Format X → List X → List ℕ → Type 0
-NoneNext f before rest = (x : _) (more : List ℕ) → Next f before x rest more → ⊥
+NoneNext f before = NoneFirst (Next f before)
 
 -- a record in form comes next that is not allowed there
 pub record BadNext {X : Type 0} (f : Format X) (before : List X) (rest : List ℕ) : Type 0 where

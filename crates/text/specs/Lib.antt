@@ -1,4 +1,3 @@
 pub mod Front
 pub mod Number
 pub mod Files
-pub mod Puts

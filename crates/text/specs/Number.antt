@@ -14,6 +14,10 @@ pub record NumberFirst (most n : ℕ) (bs rest : List ℕ) : Type 0 where
   pub front : bs ≡ decimal n ++ rest
   pub whole : NoDigit rest
 
+-- the same, and then the byte that ends it, before the rest
+abbrev pub EndedFirst : ℕ → ℕ → ℕ → List ℕ → List ℕ → Type 0
+EndedFirst most end n bs rest = NumberFirst most n bs (end ∷ rest)
+
 -- a number of at most so many digits
 abbrev pub Short : ℕ → ℕ → Type 0
 Short most n = n < 10 ^ most

@@ -1,10 +1,10 @@
 -- The table in the code is the one that the rule makes: all of its entries are computed and compared.
-use Rattle.std.proofs.Common.{Some, sym, ap, ◌∙◌, arith}
+use Rattle.std.proofs.Common.{◌∙◌}
 use Rattle.calendar.specs.Calendar.{days_in}
-use Rattle.calendar.proofs.Entries.{at, entries}
-use Rattle.calendar.proofs.Months.{in_table}
+use Rattle.calendar.proofs.Entries.{entries}
+use Rattle.calendar.proofs.LookUp.{looked_up}
 use Rattle.calendar.proofs.first_day.Goals as goal
 
-pub returns-then-k-lt601 : goal.returns-then-k-lt601
+pub returns : goal.returns
 unfolding entries days_in
-returns-then-k-lt601 c = ap Some (at 601 c.args.k (omega arith)) ∙ sym (in_table c.args.k (omega arith))
+returns c = c.copied.ensures ∙ looked_up c.args.k c.get.result c.get.ensures.lookup

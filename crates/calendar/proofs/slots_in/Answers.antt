@@ -7,7 +7,7 @@ use Rattle.calendar.proofs.slots_in.Goals as goal
 days : (c : goal.In_ok-days) → c.in_ok-first_day.field-0 ≡ c.in_ok-days.field-0 + fiscal_days c.args.year c.args.month
 days c =
     let k = (c.args.year - 2025) * 12 + (c.args.month - 1) in
-    let e = follows k _ _ (omega arith) c.in_ok-days.ensures c.in_ok-first_day.ensures in
+    let e = follows k _ _ (omega arith) (simp (c.from.ensures, c.from-2.ensures) at c.in_ok-days.ensures) (simp (c.from.ensures, c.from-2.ensures) at c.in_ok-first_day.ensures) in
     omega (arith, e, fiscal c.args.year c.args.month (omega arith) (omega arith) (omega arith))
 
 pub overflow_sub-days : goal.overflow_sub-days
