@@ -2,4 +2,4 @@ pub mod Priced
 pub mod Walk
 pub mod Smallness
 pub mod Facts
-pub mod Agreed
+pub mod Totals

@@ -1,15 +1,7 @@
 -- Bounds that keep the work of pricing within its integers.
-use Rattle.std.specs.Prelude.{ℕ, ◌*◌, ◌<◌, ◌≤◌, ℤ, pos, negsuc, ◌≤ℤ◌}
-use Rattle.terms.specs.declared.fraction.Fraction.{Fraction}
+use Rattle.std.specs.Prelude.{◌≤◌, ℤ, pos, negsuc, ◌≤ℤ◌}
 use Rattle.terms.specs.declared.terms.Index.{Index}
 use Rattle.terms.specs.declared.terms.Terms.{Terms}
-
--- bounds of the numerator and of the denominator, and of what the fraction is worth
-pub record Small (n d k : ℕ) (f : Fraction) : Type 0 where
-  pub top : f.num ≤ n
-  pub bottom : f.den ≤ d
-  pub some : 0 < f.den
-  pub worth : f.num ≤ k * f.den
 
 pub record IndexInRange (i : Index) : Type 0 where
   pub bid_from : 100 ≤ i.bid

@@ -5,7 +5,7 @@ ghost use Rattle.terms.specs.Sound.{Named, Sized, Assessed, Worth};
 use crate::figures::Contract;
 
 // Terms that have their price. Only pricing makes them, and only they open a book.
-#[derive(Clone, Copy)]
+#[derive(Clone, Copy, Debug, PartialEq, Eq)]
 pub struct PricedTerms {
     pub(crate) contract: Contract,
     ghost named: { Named contract },

@@ -1,6 +1,7 @@
 // The price of a contract year: the exact total of its items, cut once.
-ghost use Rattle.std.specs.Prelude.{◌≡◌, ◌≤◌, IfSome, IfOk};
-ghost use Rattle.terms.specs.Bounds.{IndexInRange, PriceInRange, Small};
+ghost use Rattle.std.specs.Prelude.{◌≡◌, IfOk};
+ghost use Rattle.std.specs.Option.{option_map};
+ghost use Rattle.terms.specs.Bounds.{PriceInRange};
 ghost use Rattle.terms.specs.Fractions.{of};
 ghost use Rattle.terms.specs.Price.{CutOnce, agreed, contract_of, factor, itemised, rate_factor, ratio, together, total};
 
@@ -15,19 +16,19 @@ use crate::terms::{Index, Terms};
 const MAX_PRICE: u32 = 1_000_000;
 
 // The rates move the return in parts of this number.
-const RATE_PARTS: i32 = 5_000;
+const RATE_PARTS: u16 = 5_000;
 
 // How an index has moved since the bid.
 fn ratio(index: Index) -> Fraction
     ensures { result ≡ ratio index }
 {
     Fraction {
-        num: index.settled as u128,
-        den: index.bid as u128,
+        num: u128::from(index.settled),
+        den: u128::from(index.bid),
     }
 }
 
-// What an index moves an item by: nothing where the choice is 0.
+// What an index moves an item by: nothing where the choice, a number as it was sent, is 0.
 fn factor(choice: u32, index: Index) -> Fraction
     ensures { result ≡ factor choice index }
 {
@@ -38,71 +39,67 @@ fn factor(choice: u32, index: Index) -> Fraction
     }
 }
 
-// What the rates move the return by. None where that would be below 0.
-fn rate_factor(terms: &Terms) -> Option<Fraction>
-    requires { PriceInRange terms.now }
-    ensures value { result ≡ rate_factor terms.now }
-    ensures small { IfSome result (λ f. Small 21000 5000 5 f) }
-{
-    if terms.method != 1 || terms.choices.rates != 1 {
-        return Some(Fraction::ONE);
-    }
-    let parts = RATE_PARTS + (terms.rates.settled - terms.rates.bid);
-    if parts < 0 {
-        return None;
-    }
-    Some(Fraction {
-        num: parts as u128,
-        den: RATE_PARTS as u128,
-    })
-}
-
 // An item, moved with its index where its choice is 1.
 fn item(yen: u32, choice: u32, index: Index) -> Fraction
-    requires yen { yen ≤ 200000 }
-    requires index { IndexInRange index }
-    ensures value { result ≡ of yen (factor choice index) }
-    ensures small { Small 1999800000 9999 20000000 result }
+    ensures { result ≡ of yen (factor choice index) }
 {
-    Fraction::of(yen, factor(choice, index))
+    yen * factor(choice, index)
 }
 
-// Method 1: each item moves with its own index.
-fn itemised(terms: &Terms, rate: Fraction) -> Fraction
-    requires ranges { PriceInRange terms.now }
-    requires rate { Small 21000 5000 5 rate }
-    ensures value { result ≡ itemised terms.now rate }
-    ensures small { Small 6198140185993800000000 4998500149995000 140000000 result }
-{
-    let capital = item(terms.capital, terms.choices.capital, terms.deflator);
-    let upkeep = item(terms.upkeep, terms.choices.upkeep, terms.corporate);
-    let returns = item(terms.returns, terms.choices.returns, terms.deflator);
-    capital.plus(upkeep).plus(returns.times(rate))
+// Terms whose price is made of numbers in range. Kept as numbers, the method and the choices too: as types of their own they would be
+// tested as often.
+#[derive(Clone, Copy)]
+struct InRange<'a> {
+    terms: &'a Terms,
+    ghost ranges: { PriceInRange terms.now },
 }
 
-// Method 2: all items move with the consumer index.
-fn together(terms: &Terms) -> Fraction
-    requires { PriceInRange terms.now }
-    ensures value { result ≡ together terms.now }
-    ensures small { Small 5999400000 9999 60000000 result }
-{
-    Fraction::of(
-        terms.capital + terms.upkeep + terms.returns,
-        ratio(terms.consumer),
-    )
-}
+impl InRange<'_> {
+    // What the rates move the return by. None where that would be below 0.
+    fn rate_factor(&self) -> Option<Fraction>
+        ensures { result ≡ rate_factor self.now.terms.now }
+    {
+        let terms = self.terms;
+        if terms.method != 1 || terms.choices.rates != 1 {
+            return Some(Fraction::ONE);
+        }
+        let parts = i32::from(RATE_PARTS) + (terms.rates.settled - terms.rates.bid);
+        Some(Fraction {
+            num: u128::try_from(parts).ok()?,
+            den: u128::from(RATE_PARTS),
+        })
+    }
 
-// The exact total.
-fn total(terms: &Terms, rate: Fraction) -> Fraction
-    requires ranges { PriceInRange terms.now }
-    requires rate { Small 21000 5000 5 rate }
-    ensures value { result ≡ total terms.now rate }
-    ensures small { Small 6198140185993800000000 4998500149995000 140000000 result }
-{
-    if terms.method == 1 {
-        itemised(terms, rate)
-    } else {
-        together(terms)
+    // Method 1: each item moves with its own index.
+    fn itemised(&self, rate: Fraction) -> Fraction
+        requires { rate_factor self.now.terms.now ≡ Some rate }
+        ensures { result ≡ itemised self.now.terms.now rate }
+    {
+        let terms = self.terms;
+        let capital = item(terms.capital, terms.choices.capital, terms.deflator);
+        let upkeep = item(terms.upkeep, terms.choices.upkeep, terms.corporate);
+        let returns = item(terms.returns, terms.choices.returns, terms.deflator);
+        capital + upkeep + returns * rate
+    }
+
+    // Method 2: all items move with the consumer index.
+    fn together(&self) -> Fraction
+        ensures { result ≡ together self.now.terms.now }
+    {
+        let terms = self.terms;
+        (terms.capital + terms.upkeep + terms.returns) * ratio(terms.consumer)
+    }
+
+    // The exact total. None where the rates take the return below 0.
+    fn total(&self) -> Option<Fraction>
+        ensures { result ≡ option_map (total self.now.terms.now) (rate_factor self.now.terms.now) }
+    {
+        let rate = self.rate_factor()?;
+        Some(if self.terms.method == 1 {
+            self.itemised(rate)
+        } else {
+            self.together()
+        })
     }
 }
 
@@ -114,18 +111,16 @@ pub fn price(terms: &Terms) -> Result<PricedTerms, PriceRefusal>
     if let Some(line) = first_out(terms) {
         return Err(PriceRefusal::Range(line));
     }
-    let Some(rate) = rate_factor(terms) else {
-        return Err(PriceRefusal::RateBelowZero);
-    };
-    let total = total(terms, rate);
+    let known = InRange { terms };
+    let total = known.total().ok_or(PriceRefusal::RateBelowZero)?;
     let price = (total.num / total.den) as u32;
     if price > MAX_PRICE {
         return Err(PriceRefusal::PriceTooHigh);
     }
-    let full = price as u64 * terms.capacity as u64;
-    if terms.reduction > full {
-        return Err(PriceRefusal::ReductionTooHigh);
-    }
+    let full = u64::from(price) * u64::from(terms.capacity);
+    let amount = full
+        .checked_sub(terms.reduction)
+        .ok_or(PriceRefusal::ReductionTooHigh)?;
     Ok(PricedTerms {
         contract: Contract {
             plant: terms.plant,
@@ -134,7 +129,7 @@ pub fn price(terms: &Terms) -> Result<PricedTerms, PriceRefusal>
             assessed: terms.assessed,
             hours: terms.hours as u16,
             price,
-            amount: full - terms.reduction,
+            amount,
         },
     })
 }

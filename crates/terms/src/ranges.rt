@@ -48,42 +48,40 @@ const RANGES: [(i128, i128); COUNT] = [
 pub fn in_range(numbers: &[i128], i: usize) -> bool
     ensures { result ≡ (stands numbers.now i && in_range numbers.now i) }
 {
-    if i >= COUNT || i >= numbers.len() {
+    let (Some(&(low, high)), Some(&number)) = (RANGES.get(i), numbers.get(i)) else {
         return false;
-    }
-    let (low, high) = RANGES[i];
-    let number = numbers[i];
-    low <= number && number <= high && (i != ASSESSED || numbers[CAPACITY] <= 10 * number)
+    };
+    (low..=high).contains(&number) && (i != ASSESSED || numbers[CAPACITY] <= 10 * number)
 }
 
-impl Terms {
-    // The numbers in the order of a file of terms.
-    pub(crate) fn numbers(&self) -> [i128; COUNT]
-        ensures { result ≡ numbers self.now }
-    {
+// The numbers in the order of a file of terms.
+impl From<&Terms> for [i128; COUNT] {
+    ghost from_gives = { λ t r. r ≡ numbers t.now };
+
+    fn from(terms: &Terms) -> [i128; COUNT] {
         [
-            self.plant as i128,
-            self.year as i128,
-            self.capacity as i128,
-            self.assessed as i128,
-            self.hours as i128,
-            self.capital as i128,
-            self.upkeep as i128,
-            self.returns as i128,
-            self.method as i128,
-            self.choices.capital as i128,
-            self.choices.upkeep as i128,
-            self.choices.returns as i128,
-            self.choices.rates as i128,
-            self.deflator.bid as i128,
-            self.deflator.settled as i128,
-            self.corporate.bid as i128,
-            self.corporate.settled as i128,
-            self.consumer.bid as i128,
-            self.consumer.settled as i128,
-            self.rates.bid as i128,
-            self.rates.settled as i128,
-            self.reduction as i128,
+            i128::from(terms.plant),
+            i128::from(terms.year),
+            i128::from(terms.capacity),
+            i128::from(terms.assessed),
+            i128::from(terms.hours),
+            i128::from(terms.capital),
+            i128::from(terms.upkeep),
+            i128::from(terms.returns),
+            i128::from(terms.method),
+            i128::from(terms.choices.capital),
+            i128::from(terms.choices.upkeep),
+            i128::from(terms.choices.returns),
+            i128::from(terms.choices.rates),
+            i128::from(terms.deflator.bid),
+            i128::from(terms.deflator.settled),
+            i128::from(terms.corporate.bid),
+            i128::from(terms.corporate.settled),
+            i128::from(terms.consumer.bid),
+            i128::from(terms.consumer.settled),
+            i128::from(terms.rates.bid),
+            i128::from(terms.rates.settled),
+            i128::from(terms.reduction),
         ]
     }
 }
@@ -93,11 +91,6 @@ pub fn first_out(terms: &Terms) -> Option<usize>
     ensures value { result ≡ first_out (numbers terms.now) }
     ensures first { FirstOut (numbers terms.now) result }
 {
-    let numbers = terms.numbers();
-    for i in 0..COUNT {
-        if !in_range(&numbers, i) {
-            return Some(i + 1);
-        }
-    }
-    None
+    let numbers: [i128; COUNT] = terms.into();
+    (0..COUNT).find(|&i| !in_range(&numbers, i)).map(|i| i + 1)
 }

@@ -15,11 +15,11 @@ pub enum PriceRefusal {
     ReductionTooHigh,
 }
 
-impl PriceRefusal {
-    pub fn refusal(&self) -> Refusal
-        ensures { result ≡ price_refusal self.now }
-    {
-        match *self {
+impl From<PriceRefusal> for Refusal {
+    ghost from_gives = { λ e r. r ≡ price_refusal e };
+
+    fn from(refused: PriceRefusal) -> Refusal {
+        match refused {
             PriceRefusal::Range(line) => Refusal {
                 number: 2,
                 place: line,

@@ -2,21 +2,21 @@
 
 // The figures of an index: of the year of the bid, and of the settled year. The construction deflator has that of the first year of supply
 // in place of the second.
-#[derive(Clone, Copy)]
+#[derive(Clone, Copy, Debug, PartialEq, Eq)]
 pub struct Index {
     pub bid: u32,
     pub settled: u32,
 }
 
 // Lending rates, in thousandths of a percent.
-#[derive(Clone, Copy)]
+#[derive(Clone, Copy, Debug, PartialEq, Eq)]
 pub struct Rates {
     pub bid: i32,
     pub settled: i32,
 }
 
 // Which items of the price move: 1 where one does, 0 where it does not.
-#[derive(Clone, Copy)]
+#[derive(Clone, Copy, Debug, PartialEq, Eq)]
 pub struct Choices {
     // the capital, with the deflator
     pub capital: u32,
@@ -28,8 +28,9 @@ pub struct Choices {
     pub rates: u32,
 }
 
-// The numbers as they were sent: nothing is known of them until they are priced.
-#[derive(Clone, Copy)]
+// The numbers as they were sent: nothing is known of them until they are priced. Kept as plain numbers, the method and the choices too: a
+// narrower type would ask more of whoever makes terms.
+#[derive(Clone, Copy, Debug, PartialEq, Eq)]
 pub struct Terms {
     pub plant: u32,
     // the fiscal year, which begins in April

@@ -1,5 +1,4 @@
 pub mod Lines
 pub mod RangeTable
-pub mod Spelled
 pub mod InRange
 pub mod Verdicts

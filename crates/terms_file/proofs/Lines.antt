@@ -1,67 +1,37 @@
 -- The one line that begins a text.
-use Rattle.std.proofs.Common.{◌≡◌, ℕ, zero, suc, ◌<◌, true, List, [], ◌∷◌, ◌++◌, length, get_or, drop, ℤ, pos, negsuc, ◌-ℤ◌, decimal, sym, refl, ap, ◌∙◌, subst, append_assoc, arith, to_z, of_z}
+use Rattle.std.proofs.Common.{◌≡◌, ℕ, suc, List, [], ◌∷◌, ◌++◌, get_or, drop, ℤ, pos, negsuc, decimal, sym, refl, ap, ◌∙◌, subst, append_assoc, arith, to_z, of_z}
 use mir.Syntax.{w128}
-use Rattle.std.specs.Str.Parse.{AllDigits, digits_value}
 use Rattle.std.specs.Int.{IsInRange}
 use Rattle.std.proofs.lemmas.Fmt.{digits_decimal, decimal_nonempty}
-use Rattle.std.proofs.lemmas.Str.Parse.{IsNumeralModel, numerals_by_value, tells_digits, digit_from_value}
+use Rattle.std.proofs.lemmas.Str.Parse.{numerals_by_value, tells_by_index}
 use Rattle.std.proofs.lemmas.Int.{ints}
-use Rattle.text.specs.Front.{Begins}
-use Rattle.text.specs.Number.{NumberFirst, Short, ended}
+use Rattle.std.proofs.lemmas.List.{get_or_append_left}
+use Rattle.text.specs.Front.{Begins, NoneFirst}
+use Rattle.text.specs.Number.{Short, ended}
 use Rattle.text.proofs.Ended as numbers
 use Rattle.text.proofs.Runs.{fits}
-use Rattle.terms_file.specs.TermsFile.{InForm, line_text, rate_at}
+use Rattle.terms_file.specs.TermsFile.{InForm, line_text}
 
 -- a line's end is no digit
 no_digit : IsInRange 48 57 10 → ⊥
 no_digit d = omega (arith, d.0)
 
 -- a number without a sign, and the line's end
-pub number_of : (n : ℕ) (bs rest : List ℕ) → Begins (ended 10) (Short 13) n bs rest → NumberFirst 13 n bs (10 ∷ rest)
-number_of = numbers.number_of 13 10 (omega arith) (omega arith) no_digit
-
-pub ended_of : (n : ℕ) (bs us rest : List ℕ) → NumberFirst 13 n bs us → us ≡ 10 ∷ rest → Begins (ended 10) (Short 13) n bs rest
-ended_of = numbers.ended_of 13 10 (omega arith) (omega arith) no_digit
-
-pub none_ended : (n : ℕ) (bs us : List ℕ) → NumberFirst 13 n bs us → ((rest : List ℕ) → us ≡ 10 ∷ rest → ⊥) → (m : ℕ) (rest : List ℕ) → Begins (ended 10) (Short 13) m bs rest → ⊥
-none_ended = numbers.none_ended 13 10 (omega arith) (omega arith) no_digit
-
 pub one_ended : (m n : ℕ) (bs us rest : List ℕ) → Begins (ended 10) (Short 13) m bs us → Begins (ended 10) (Short 13) n bs rest → (m ≡ n) × (us ≡ rest)
 one_ended = numbers.one_ended 13 10 (omega arith) (omega arith) no_digit
 
-own : IsNumeralModel (AllDigits 10) (digits_value 10)
-own = numerals_by_value (AllDigits 10) tells_digits
-
 -- no number begins with a minus
-no_minus_digit : (ds us rest : List ℕ) → AllDigits 10 ds → 0 < length ds → 45 ∷ us ≡ ds ++ rest → ⊥
-no_minus_digit [] us rest d some e = omega arith
-no_minus_digit (c ∷ cs) us rest d some e =
-    let is : 45 ≡ c = ap (λ l. get_or l 0 0) e in
-    omega (arith, is, (digit_from_value c d.0).0)
-
 no_minus : (n : ℕ) (us rest : List ℕ) → Short 13 n → 45 ∷ us ≡ decimal n ++ rest → ⊥
-no_minus n us rest h e = no_minus_digit (decimal n) us rest (digits_decimal own n (fits 13 n (omega arith) h)) (decimal_nonempty n (fits 13 n (omega arith) h)) e
+no_minus n us rest h e =
+    let small = fits 13 n (omega arith) h in
+    let some = decimal_nonempty n small in
+    let digit = digits_decimal (numerals_by_value _ tells_by_index) n small 0 some in
+    omega (arith, digit.0, ap (λ l. get_or l 0 0) e, get_or_append_left (decimal n) rest 0 0 some)
 
-module _ (k : ℕ) (bs : List ℕ) where
-  -- no number comes first, and no minus where one may stand
-  pub no_line : ((n : ℕ) (rest : List ℕ) → Begins (ended 10) (Short 13) n bs rest → ⊥) → (rate_at k ≡ true → (us : List ℕ) → bs ≡ 45 ∷ us → ⊥)
-      → (z : ℤ) (rest : List ℕ) → Begins line_text (InForm k) z bs rest → ⊥
-  no_line none minus (pos n) rest b = none n rest (record { fit = b.fit; front = b.front })
-  no_line none minus (negsuc n) rest b = minus b.fit.1 _ b.front
-
-  -- a minus comes first, and after it no number but 0
-  pub no_line_minus : {us : List ℕ} → bs ≡ 45 ∷ us → ((n : ℕ) (rest : List ℕ) → Begins (ended 10) (Short 13) (suc n) us rest → ⊥)
-      → (z : ℤ) (rest : List ℕ) → Begins line_text (InForm k) z bs rest → ⊥
-  no_line_minus {us} e none (pos n) rest b = no_minus n us (10 ∷ rest) b.fit (sym e ∙ b.front ∙ append_assoc (decimal n) (10 ∷ []) rest)
-  no_line_minus {us} e none (negsuc n) rest b = none n rest (record { fit = b.fit.0; front = ap (drop 1) (sym e ∙ b.front) })
-
-  -- a minus and a number that is not 0
-  pub line_minus : {us rest : List ℕ} (n : ℕ) (z : ℤ) → (n ≡ 0 → ⊥) → z ≡ pos 0 -ℤ pos n → rate_at k ≡ true → bs ≡ 45 ∷ us → Begins (ended 10) (Short 13) n us rest
-      → Begins line_text (InForm k) z bs rest
-  line_minus {us} {rest} zero z some is rate e b = absurd (some refl)
-  line_minus {us} {rest} (suc n) z some is rate e b =
-      let below : pos 0 -ℤ pos (suc n) ≡ negsuc n = omega (arith, ints) in
-      subst (λ (y : ℤ). Begins line_text (InForm k) y bs rest) (sym (is ∙ below)) (record { fit = (b.fit, rate); front = e ∙ ap (λ l. 45 ∷ l) b.front })
+-- where a minus comes first, and after it no number but 0, no line does
+pub no_line : (k : ℕ) (bs us : List ℕ) → bs ≡ 45 ∷ us → ((n : ℕ) (rest : List ℕ) → Begins (ended 10) (Short 13) (suc n) us rest → ⊥) → NoneFirst (Begins line_text (InForm k)) bs
+no_line k bs us e none (pos n) rest b = no_minus n us (10 ∷ rest) b.fit (sym e ∙ b.front ∙ append_assoc (decimal n) (10 ∷ []) rest)
+no_line k bs us e none (negsuc n) rest b = none n rest (record { fit = b.fit.0; front = ap (drop 1) (sym e ∙ b.front) })
 
 -- one line at most begins a text
 pub one_line : (k : ℕ) (y z : ℤ) (us rest : List ℕ) → InForm k y → InForm k z → line_text y ++ us ≡ line_text z ++ rest → (y ≡ z) × (us ≡ rest)

@@ -1,10 +1,10 @@
 -- The verdict on a text of terms.
-use Rattle.std.proofs.Common.{◌≡◌, ℕ, suc, ◌+◌, ◌<◌, ◌≤◌, Bool, true, false, ◌&&◌, List, [], ◌∷◌, ◌++◌, length, get_or, take, drop, set, ℤ, pos, negsuc, nat_abs, None, Ok, Err, decimal, Result, sym, refl, ap, ◌∙◌, append-nil, arith, length-append, length-set}
+use Rattle.std.proofs.Common.{◌≡◌, ℕ, suc, ◌+◌, ◌<◌, ◌≤◌, Bool, true, false, ◌&&◌, List, [], ◌∷◌, ◌++◌, length, get_or, take, set, ℤ, pos, negsuc, nat_abs, None, Ok, Err, decimal, Result, sym, refl, ap, ◌∙◌, append-nil, arith, length-append, length-set}
 use Rattle.std.specs.Fmt.{signed_decimal}
 use Rattle.std.proofs.lemmas.Fmt.{length-decimal-le}
-use Rattle.std.proofs.lemmas.List.{length-take-le, drop_all, drop_more}
+use Rattle.std.proofs.lemmas.List.{length-take-le}
 use Rattle.std.proofs.lemmas.Bool.{false≢true}
-use Rattle.text.specs.Front.{Begins}
+use Rattle.text.specs.Front.{Begins, NoneFirst}
 use Rattle.text.specs.Files.{texts, Upto, Stop, complete, out_of_form, out_of_limits, StopsAt}
 use Rattle.text.proofs.Fronts as fronts
 use Rattle.text.proofs.Records as records
@@ -17,24 +17,28 @@ use Rattle.terms_file.proofs.InRange.{all_good, good_all, range_put}
 use Rattle.terms_file.proofs.Lines.{one_line}
 use Rattle.terms.proofs.Walk.{all_in, none_out, range_told}
 
--- the first i numbers are the lines before the place `at`
-pub record Sofar (text : List ℕ) (ns : List ℤ) (i at : ℕ) : Type 0 where
-  pub lines : records.Sofar file text ns i at
+-- the first i numbers are the lines before the rest
+pub record Sofar (text : List ℕ) (ns : List ℤ) (i : ℕ) (rest : List ℕ) : Type 0 where
+  pub lines : records.Sofar file text ns i rest
   pub long : length ns ≡ 22
 
-module _ {text : List ℕ} {ns : List ℤ} {i at : ℕ} (h : Sofar text ns i at) where
+more_left : (ns : List ℤ) (rest : List ℕ) → length ns ≡ 22 → (length rest ≡ 0 → ⊥) → Err (Form 23) ≡ answer (complete ns rest)
+more_left ns [] long some = absurd (some refl)
+more_left ns (b ∷ rest) long some = ap (λ k. Err (Form k)) (omega (arith, long))
+
+module _ {text : List ℕ} {ns : List ℤ} {i : ℕ} {rest : List ℕ} (h : Sofar text ns i rest) where
   next : length (take i ns) + 1 ≡ i + 1
   next = ap (λ k. k + 1) (length-take-le i ns h.lines.count)
 
-  pub bad_form : i < 22 → ((z : ℤ) (more : List ℕ) → Begins line_text (InForm i) z (drop at text) more → ⊥) → Judged text (Err (Form (i + 1)))
+  pub bad_form : i < 22 → NoneFirst (Begins line_text (InForm i)) rest → Judged text (Err (Form (i + 1)))
   bad_form l formless = record {
-    stop = out_of_form (take i ns) (drop at text);
+    stop = out_of_form (take i ns) rest;
     stops = records.stops_form file h.lines 22 h.long l formless;
     says = ap (λ k. Err (Form k)) (sym next);
   }
 
   -- the number that comes next is put at its place, and is in range there or not
-  module _ {z : ℤ} (more : ℕ) (b : Begins line_text (InForm i) z (drop at text) (drop more text)) where
+  module _ {z : ℤ} {more : List ℕ} (b : Begins line_text (InForm i) z rest more) where
     told : (t : Bool) → i < 22 → t ≡ (stands (set ns i z) i && in_range (set ns i z) i) → t ≡ in_range (take i ns ++ (z ∷ [])) (length (take i ns))
     told t l e =
         let long = length-set ns i z ∙ h.long in
@@ -42,42 +46,35 @@ module _ {text : List ℕ} {ns : List ℤ} {i at : ℕ} (h : Sofar text ns i at)
 
     pub out_of_range : i < 22 → false ≡ (stands (set ns i z) i && in_range (set ns i z) i) → Judged text (Err (Range (i + 1)))
     out_of_range l out = record {
-      stop = out_of_limits (take i ns) (drop at text);
+      stop = out_of_limits (take i ns) rest;
       stops = records.stops_limits file h.lines 22 h.long l b (λ in_range. false≢true (told false l out ∙ in_range));
       says = ap (λ k. Err (Range k)) (sym next);
     }
 
-    pub read_more : i < 22 → more ≤ length text → true ≡ (stands (set ns i z) i && in_range (set ns i z) i) → Sofar text (set ns i z) (i + 1) more
-    read_more l to in_range = record {
-      lines = records.sofar_more file h.lines (omega (arith, h.long)) b to (sym (told true l in_range));
+    pub read_more : i < 22 → true ≡ (stands (set ns i z) i && in_range (set ns i z) i) → Sofar text (set ns i z) (i + 1) more
+    read_more l in_range = record {
+      lines = records.sofar_more file h.lines (omega (arith, h.long)) b (sym (told true l in_range));
       long = length-set ns i z ∙ h.long;
     }
 
-  pub too_long : 22 ≤ i → at < length text → Judged text (Err (Form 23))
-  too_long l more = record {
-    stop = complete ns (drop at text);
-    stops = records.stops_complete file h.lines 22 h.long l;
-    says = ap (λ k. Err (Form k)) (omega (arith, h.long)) ∙ ap (λ z. answer (complete ns z)) (sym (drop_more text at 0 more));
-  }
+  module _ (l : 22 ≤ i) where
+    upto : Upto file text ns rest
+    upto = (records.stops_complete file h.lines 22 h.long l).0
 
-  pub all_read : 22 ≤ i → length text ≤ at → Judged text (Ok ns)
-  all_read l done = record {
-    stop = complete ns (drop at text);
-    stops = records.stops_complete file h.lines 22 h.long l;
-    says = ap (λ z. answer (complete ns z)) (sym (drop_all at text done));
-  }
+    pub too_long : (length rest ≡ 0 → ⊥) → Judged text (Err (Form 23))
+    too_long some = record { stop = complete ns rest; stops = records.stops_complete file h.lines 22 h.long l; says = more_left ns rest h.long some }
 
-  upto : 22 ≤ i → Upto file text ns (drop at text)
-  upto l = (records.stops_complete file h.lines 22 h.long l).0
+    pub ranges_read : first_out ns ≡ None
+    ranges_read = none_out ns (λ k less. all_good ns upto.each k (omega (arith, h.long)))
 
-  pub ranges_read : 22 ≤ i → first_out ns ≡ None
-  ranges_read l = none_out ns (λ k less. all_good ns (upto l).each k (omega (arith, h.long)))
+    pub all_read : rest ≡ [] → Judged text (Ok ns)
+    all_read none = record { stop = complete ns rest; stops = records.stops_complete file h.lines 22 h.long l; says = ap (λ z. answer (complete ns z)) (sym none) }
 
-  pub text_read : (t : Terms) → numbers t ≡ ns → 22 ≤ i → length text ≤ at → IsTextOf text t
-  text_read t e l done = record {
-    written = (upto l).front ∙ ap (λ z. texts file ns ++ z) (drop_all at text done) ∙ append-nil (texts file ns) ∙ ap (texts file) (sym e);
-    ranges = ap first_out e ∙ ranges_read l;
-  }
+    pub text_read : rest ≡ [] → (t : Terms) → numbers t ≡ ns → IsTextOf text t
+    text_read none t e = record {
+      written = upto.front ∙ ap (λ z. texts file ns ++ z) none ∙ append-nil (texts file ns) ∙ ap (texts file) (sym e);
+      ranges = ap first_out e ∙ ranges_read;
+    }
 
 one_judged : (text : List ℕ) (v w : Result (List ℤ) TermsRefusal) → Judged text v → Judged text w → v ≡ w
 one_judged text v w a b = a.says ∙ ap answer (records.one_stop file one_line 22 text a.stop b.stop a.stops b.stops) ∙ sym b.says
@@ -104,15 +101,12 @@ terms_of ns =
       reduction = n 21;
     }
 
-same_terms : (t u : Terms) → numbers t ≡ numbers u → t ≡ u
-unfolding terms_of numbers
-same_terms t u e = ap terms_of e
-
 same_read : (v w : Result Terms TermsRefusal) → read v ≡ read w → v ≡ w
-same_read (Ok t) (Ok u) e = let n : numbers t ≡ numbers u = cc in ap Ok (same_terms t u n)
-same_read (Ok t) (Err d) e = let z : ◌≡◌ {A = ℕ} 0 1 = cc in absurd (omega arith)
-same_read (Err d) (Ok u) e = let z : ◌≡◌ {A = ℕ} 0 1 = cc in absurd (omega arith)
-same_read (Err d) (Err f) e = let n : d ≡ f = cc in ap Err n
+unfolding terms_of numbers
+same_read (Ok t) (Ok u) e = let n : numbers t ≡ numbers u = cc in ap (λ ns. Ok (terms_of ns)) n
+same_read (Ok t) (Err d) e = cc
+same_read (Err d) (Ok u) e = cc
+same_read (Err d) (Err f) e = cc
 
 pub one_verdict : OneVerdict
 one_verdict text v w a b = same_read v w (one_judged text (read v) (read w) a b)

@@ -1,5 +1,5 @@
 // Reads a text of terms: a number on each of 22 lines.
-ghost use Rattle.std.specs.Prelude.{◌≡◌, ◌+◌, ◌<◌, length, pos, IfOk, None, Decides, slice_index, slice_index_or};
+ghost use Rattle.std.specs.Prelude.{◌≡◌, ◌+◌, ◌<◌, pos, IfOk, None, slice_index_or};
 ghost use Rattle.terms.specs.Ranges.{first_out, numbers};
 ghost use Rattle.terms_file.specs.TermsFile.{InForm, IsTextOf, OneVerdict, ReadsBack, Verdict, line_text, rate_at};
 ghost use Rattle.text.specs.Front.{Begins, Reads};
@@ -8,7 +8,7 @@ ghost use Rattle.text.specs.Number.{Short, ended};
 use crate::refusals::TermsRefusal;
 use terms::ranges::{COUNT, in_range};
 use terms::terms::{Choices, Index, Rates, Terms};
-use text::read_number;
+use text::read_ended;
 
 // The most digits of a number.
 const MOST_DIGITS: usize = 13;
@@ -18,16 +18,11 @@ const RATE_BID: usize = 19;
 
 const RATE_SETTLED: usize = 20;
 
-// The number without a sign that begins at `at`, with the line's end after it.
-fn read_unsigned(text: &[u8], at: usize) -> Option<(u64, usize)>
-    ensures { Reads (Begins (ended 10) (Short 13)) text.now at result }
+// The number without a sign that begins the text, and what comes after its line's end.
+fn read_unsigned(text: &[u8]) -> Option<(u64, &[u8])>
+    ensures { Reads (Begins (ended 10) (Short 13)) text.now result }
 {
-    let (number, end) = read_number(text, at, MOST_DIGITS)?;
-    if end < text.len() && text[end] == b'\n' {
-        Some((number, end + 1))
-    } else {
-        None
-    }
+    read_ended(text, MOST_DIGITS, b'\n')
 }
 
 fn is_rate(i: usize) -> bool
@@ -36,103 +31,98 @@ fn is_rate(i: usize) -> bool
     i == RATE_BID || i == RATE_SETTLED
 }
 
-fn is_minus(text: &[u8], at: usize) -> bool
-    ensures { Decides result ((at < length text.now) × (slice_index text.now at ≡ 45)) }
+// The line at the place `i` of the terms that begins the text, and the rest. A rate alone may be below 0.
+fn read_line(text: &[u8], i: usize) -> Option<(i128, &[u8])>
+    ensures { Reads (Begins line_text (InForm i)) text.now result }
 {
-    at < text.len() && text[at] == b'-'
-}
-
-// The line at the place `i` of the terms that begins at `at`, and where the next one begins. A rate alone may be below 0.
-fn read_line(text: &[u8], at: usize, i: usize) -> Option<(i128, usize)>
-    ensures { Reads (Begins line_text (InForm i)) text.now at result }
-{
-    if is_rate(i) && is_minus(text, at) {
-        let (number, next) = read_unsigned(text, at + 1)?;
-        if number == 0 {
-            return None;
+    match text.strip_prefix(b"-") {
+        Some(digits) if is_rate(i) => {
+            let (number, rest) = read_unsigned(digits)?;
+            if number == 0 {
+                return None;
+            }
+            Some((-i128::from(number), rest))
         }
-        return Some((-(number as i128), next));
-    }
-    let (number, next) = read_unsigned(text, at)?;
-    Some((number as i128, next))
-}
-
-// The number at a place that is neither a rate nor the reduction.
-fn whole(values: &[i128; COUNT], i: usize) -> u32
-    requires place { i < 19 }
-    requires ranges { first_out values.now ≡ None }
-    ensures { pos result ≡ slice_index_or values.now i (pos 0) }
-{
-    values[i] as u32
-}
-
-// The two figures of an index that begin at a place.
-fn index(values: &[i128; COUNT], i: usize) -> Index
-    requires place { i < 18 }
-    requires ranges { first_out values.now ≡ None }
-    ensures bid { pos result.bid ≡ slice_index_or values.now i (pos 0) }
-    ensures settled { pos result.settled ≡ slice_index_or values.now (i + 1) (pos 0) }
-{
-    Index {
-        bid: whole(values, i),
-        settled: whole(values, i + 1),
+        _ => {
+            let (number, rest) = read_unsigned(text)?;
+            Some((i128::from(number), rest))
+        }
     }
 }
 
-fn choices(values: &[i128; COUNT]) -> Choices
-    requires { first_out values.now ≡ None }
-    ensures capital { pos result.capital ≡ slice_index_or values.now 9 (pos 0) }
-    ensures upkeep { pos result.upkeep ≡ slice_index_or values.now 10 (pos 0) }
-    ensures returns { pos result.returns ≡ slice_index_or values.now 11 (pos 0) }
-    ensures rates { pos result.rates ≡ slice_index_or values.now 12 (pos 0) }
-{
-    Choices {
-        capital: whole(values, 9),
-        upkeep: whole(values, 10),
-        returns: whole(values, 11),
-        rates: whole(values, 12),
-    }
+// The numbers of terms, none of which is out of its range.
+#[derive(Clone, Copy)]
+struct Numbers {
+    values: [i128; COUNT],
+    ghost ranges: { first_out values ≡ None },
 }
 
-fn rates(values: &[i128; COUNT]) -> Rates
-    requires { first_out values.now ≡ None }
-    ensures bid { result.bid ≡ slice_index_or values.now 19 (pos 0) }
-    ensures settled { result.settled ≡ slice_index_or values.now 20 (pos 0) }
-{
-    Rates {
-        bid: values[RATE_BID] as i32,
-        settled: values[RATE_SETTLED] as i32,
+// Kept as a method for each type: that a number fits one follows from the ranges of that method's places.
+impl Numbers {
+    // The number at a place that is neither a rate nor the reduction.
+    fn whole(&self, i: usize) -> u32
+        requires { i < 19 }
+        ensures { pos result ≡ slice_index_or self.now.values i (pos 0) }
+    {
+        self.values[i] as u32
     }
-}
 
-fn reduction(values: &[i128; COUNT]) -> u64
-    requires { first_out values.now ≡ None }
-    ensures { pos result ≡ slice_index_or values.now 21 (pos 0) }
-{
-    values[21] as u64
+    // The two figures of an index that begin at the place.
+    fn index(&self, i: usize) -> Index
+        requires { i < 18 }
+        ensures bid { pos result.bid ≡ slice_index_or self.now.values i (pos 0) }
+        ensures settled { pos result.settled ≡ slice_index_or self.now.values (i + 1) (pos 0) }
+    {
+        Index {
+            bid: self.whole(i),
+            settled: self.whole(i + 1),
+        }
+    }
+
+    fn rates(&self) -> Rates
+        ensures bid { result.bid ≡ slice_index_or self.now.values 19 (pos 0) }
+        ensures settled { result.settled ≡ slice_index_or self.now.values 20 (pos 0) }
+    {
+        Rates {
+            bid: self.values[RATE_BID] as i32,
+            settled: self.values[RATE_SETTLED] as i32,
+        }
+    }
+
+    fn reduction(&self) -> u64
+        ensures { pos result ≡ slice_index_or self.now.values 21 (pos 0) }
+    {
+        self.values[21] as u64
+    }
 }
 
 // The terms that have these numbers.
-fn terms_of(values: &[i128; COUNT]) -> Terms
-    requires { first_out values.now ≡ None }
-    ensures { numbers result ≡ values.now }
-{
-    Terms {
-        plant: whole(values, 0),
-        year: whole(values, 1),
-        capacity: whole(values, 2),
-        assessed: whole(values, 3),
-        hours: whole(values, 4),
-        capital: whole(values, 5),
-        upkeep: whole(values, 6),
-        returns: whole(values, 7),
-        method: whole(values, 8),
-        choices: choices(values),
-        deflator: index(values, 13),
-        corporate: index(values, 15),
-        consumer: index(values, 17),
-        rates: rates(values),
-        reduction: reduction(values),
+impl From<Numbers> for Terms {
+    ghost from_gives = { λ ns t. numbers t ≡ ns.values };
+
+    fn from(numbers: Numbers) -> Terms {
+        Terms {
+            plant: numbers.whole(0),
+            year: numbers.whole(1),
+            capacity: numbers.whole(2),
+            assessed: numbers.whole(3),
+            hours: numbers.whole(4),
+            capital: numbers.whole(5),
+            upkeep: numbers.whole(6),
+            returns: numbers.whole(7),
+            method: numbers.whole(8),
+            choices: Choices {
+                capital: numbers.whole(9),
+                upkeep: numbers.whole(10),
+                returns: numbers.whole(11),
+                rates: numbers.whole(12),
+            },
+            deflator: numbers.index(13),
+            corporate: numbers.index(15),
+            consumer: numbers.index(17),
+            rates: numbers.rates(),
+            reduction: numbers.reduction(),
+        }
     }
 }
 
@@ -143,20 +133,17 @@ pub fn read_terms(text: &[u8]) -> Result<Terms, TermsRefusal>
     ensures one_verdict { OneVerdict }
     ensures reads_back { ReadsBack }
 {
-    let mut numbers = [0; COUNT];
-    let mut at = 0;
+    let mut values = [0; COUNT];
+    let mut rest = text;
+    // By index: whether a number is in range depends on those before it too.
     for i in 0..COUNT {
-        let Some((number, next)) = read_line(text, at, i) else {
-            return Err(TermsRefusal::Form(i + 1));
-        };
-        numbers[i] = number;
-        if !in_range(&numbers, i) {
+        (values[i], rest) = read_line(rest, i).ok_or(TermsRefusal::Form(i + 1))?;
+        if !in_range(&values, i) {
             return Err(TermsRefusal::Range(i + 1));
         }
-        at = next;
     }
-    if at < text.len() {
+    if !rest.is_empty() {
         return Err(TermsRefusal::Form(COUNT + 1));
     }
-    Ok(terms_of(&numbers))
+    Ok(Numbers { values }.into())
 }

@@ -13,11 +13,11 @@ pub enum TermsRefusal {
     Range(usize),
 }
 
-impl TermsRefusal {
-    pub fn refusal(&self) -> Refusal
-        ensures { result ≡ terms_refusal self.now }
-    {
-        match *self {
+impl From<TermsRefusal> for Refusal {
+    ghost from_gives = { λ e r. r ≡ terms_refusal e };
+
+    fn from(refused: TermsRefusal) -> Refusal {
+        match refused {
             TermsRefusal::Form(line) => Refusal {
                 number: 1,
                 place: line,

@@ -1,7 +1,7 @@
 -- The one entry that begins a text, and the verdict on the contents.
-use Rattle.std.proofs.Common.{◌≡◌, ℕ, ◌+◌, ◌*◌, ◌<◌, ◌≤◌, List, [], ◌∷◌, ◌++◌, length, take, drop, set, Ok, Err, Result, sym, refl, ap, ◌∙◌, append_assoc, arith, length-append, length-set}
+use Rattle.std.proofs.Common.{◌≡◌, ℕ, ◌+◌, ◌*◌, ◌<◌, ◌≤◌, List, [], ◌∷◌, ◌++◌, length, take, set, Ok, Err, Result, sym, refl, ap, ◌∙◌, append_assoc, arith, length-append, length-set}
 use Rattle.std.proofs.lemmas.List.{append_cancel_left, length-take-le, take_more_set}
-use Rattle.text.specs.Front.{Begins}
+use Rattle.text.specs.Front.{Begins, NoneFirst}
 use Rattle.text.specs.Number.{Short}
 use Rattle.text.specs.Files.{texts_from, GoodAfter, Stop, complete, out_of_form, out_of_limits}
 use Rattle.text.proofs.Fronts as fronts
@@ -19,50 +19,27 @@ after_month s rest = column 8 32 s.start ++ (column 8 10 s.length ++ rest)
 entry_is : (k : ℕ) (s : Span) (rest : List ℕ) → entry_text k s ++ rest ≡ column 2 32 (k + 1) ++ after_month s rest
 entry_is k s rest = simp append_assoc
 
-abbrev pub NoColumn : ℕ → ℕ → List ℕ → Type 0
-NoColumn w end bs = (n : ℕ) (rest : List ℕ) → Begins (column w end) (Short w) n bs rest → ⊥
-
-abbrev pub NoEntry : ℕ → List ℕ → Type 0
-NoEntry k bs = (s : Span) (rest : List ℕ) → Begins (entry_text k) InEntry s bs rest → ⊥
-
-month_column : (k : ℕ) (s : Span) (bs rest : List ℕ) → k < 12 → Begins (entry_text k) InEntry s bs rest → Begins (column 2 32) (Short 2) (k + 1) bs (after_month s rest)
-month_column k s bs rest l f = record { fit = omega arith; front = f.front ∙ entry_is k s rest }
-
 short : (s : Span) → InEntry s → Short 8 s.length
 short s h = omega (arith, h.length)
 
-module _ (k : ℕ) (l : k < 12) {t0 : List ℕ} where
-  pub no_month : NoColumn 2 32 t0 → NoEntry k t0
-  no_month none s rest f = none (k + 1) (after_month s rest) (month_column k s t0 rest l f)
+-- where an entry comes first, its parts come after the columns that were read
+module _ {k : ℕ} (l : k < 12) {s : Span} {t0 rest : List ℕ} (entry : Begins (entry_text k) InEntry s t0 rest) where
+  module _ {a : ℕ} {t1 : List ℕ} (f : Begins (column 2 32) (Short 2) a t0 t1) where
+    month_first : (a ≡ k + 1) × (t1 ≡ after_month s rest)
+    month_first = one_column 2 32 (omega arith) (omega arith) a (k + 1) t0 t1 (after_month s rest) f (record { fit = omega arith; front = entry.front ∙ entry_is k s rest })
 
-  module _ {t1 : List ℕ} {found : ℕ} (f0 : Begins (column 2 32) (Short 2) found t0 t1) where
-    past_month : (s : Span) (rest : List ℕ) → Begins (entry_text k) InEntry s t0 rest → (found ≡ k + 1) × (t1 ≡ after_month s rest)
-    past_month s rest g = one_column 2 32 (omega arith) (omega arith) found (k + 1) t0 t1 (after_month s rest) f0 (month_column k s t0 rest l g)
+    pub start_first : Begins (column 8 32) (Short 8) s.start t1 (column 8 10 s.length ++ rest)
+    start_first = record { fit = entry.fit.start; front = month_first.1 }
 
-    pub no_start : NoColumn 8 32 t1 → NoEntry k t0
-    no_start none s rest g = none s.start (column 8 10 s.length ++ rest) (record { fit = g.fit.start; front = (past_month s rest g).1 })
+    module _ {b : ℕ} {t2 : List ℕ} (g : Begins (column 8 32) (Short 8) b t1 t2) where
+      pub length_first : Begins (column 8 10) (Short 8) s.length t2 rest
+      length_first = record {
+        fit = short s entry.fit;
+        front = (one_column 8 32 (omega arith) (omega arith) b s.start t1 t2 (column 8 10 s.length ++ rest) g start_first).1;
+      }
 
-    module _ {t2 : List ℕ} {start : ℕ} (f1 : Begins (column 8 32) (Short 8) start t1 t2) where
-      past_start : (s : Span) (rest : List ℕ) → Begins (entry_text k) InEntry s t0 rest → (start ≡ s.start) × (t2 ≡ column 8 10 s.length ++ rest)
-      past_start s rest g =
-          one_column 8 32 (omega arith) (omega arith) start s.start t1 t2 (column 8 10 s.length ++ rest) f1 (record { fit = g.fit.start; front = (past_month s rest g).1 })
-
-      pub no_length : NoColumn 8 10 t2 → NoEntry k t0
-      no_length none s rest g = none s.length rest (record { fit = short s g.fit; front = (past_start s rest g).1 })
-
-      module _ {t3 : List ℕ} {size : ℕ} (f2 : Begins (column 8 10) (Short 8) size t2 t3) where
-        pub no_entry : ((found ≡ k + 1) → size ≤ 60000 → ⊥) → NoEntry k t0
-        no_entry other s rest g =
-            let p = one_column 8 10 (omega arith) (omega arith) size s.length t2 t3 rest f2 (record { fit = short s g.fit; front = (past_start s rest g).1 }) in
-            other (past_month s rest g).0 (omega (arith, p.0, g.fit.length))
-
-        pub entry_of : found ≡ k + 1 → size ≤ 60000 → Begins (entry_text k) InEntry (record { start = start; length = size }) t0 t3
-        entry_of e few = record {
-          fit = record { start = f1.fit; length = few };
-          front =
-              f0.front ∙ (λ i. column 2 32 (e i) ++ (f1.front ∙ ap (λ z. column 8 32 start ++ z) f2.front) i)
-              ∙ sym (entry_is k (record { start = start; length = size }) t3);
-        }
+      pub month_and_length : {d : ℕ} {t3 : List ℕ} → Begins (column 8 10) (Short 8) d t2 t3 → (a ≡ k + 1) × (d ≤ 60000)
+      month_and_length {d} {t3} h = (month_first.0, omega (arith, (one_column 8 10 (omega arith) (omega arith) d s.length t2 t3 rest h length_first).0, entry.fit.length))
 
 one_entry : (k : ℕ) (s t : Span) (us rest : List ℕ) → InEntry s → InEntry t → entry_text k s ++ us ≡ entry_text k t ++ rest → (s ≡ t) × (us ≡ rest)
 one_entry k s t us rest f g e =
@@ -114,42 +91,41 @@ last_end_push : (before : ℕ) (spans : List Span) (s : Span) → last_end befor
 last_end_push before [] s = refl
 last_end_push before (t ∷ spans) s = last_end_push (t.start + t.length) spans s
 
--- the first i spans are the entries before the place `at`, and `end` is where the last of their bodies ends
-pub record Sofar (text : List ℕ) (spans : List Span) (i at end : ℕ) : Type 0 where
+-- the first i spans are the entries before the rest, and `end` is where the last of their bodies ends
+pub record Sofar (text : List ℕ) (spans : List Span) (i : ℕ) (rest : List ℕ) (end : ℕ) : Type 0 where
   pub twelve : length spans ≡ 12
-  pub entries : records.Sofar contents text spans i at
+  pub entries : records.Sofar contents text spans i rest
   pub ends : end ≡ last_end 252 (take i spans)
 
-pub sofar_none : (text : List ℕ) (spans : List Span) → length spans ≡ 12 → Sofar text spans 0 0 252
+pub sofar_none : (text : List ℕ) (spans : List Span) → length spans ≡ 12 → Sofar text spans 0 text 252
 sofar_none text spans e = record { twelve = e; entries = records.sofar_none contents text spans; ends = refl }
 
-module _ {text : List ℕ} {spans : List Span} {i at end : ℕ} (h : Sofar text spans i at end) where
+module _ {text : List ℕ} {spans : List Span} {i : ℕ} {rest : List ℕ} {end : ℕ} (h : Sofar text spans i rest end) where
   long : i ≡ length (take i spans)
   long = sym (length-take-le i spans h.entries.count)
 
-  pub sofar_more : {s : Span} {next : ℕ} → i < 12 → Begins (entry_text i) InEntry s (drop at text) (drop next text) → next ≤ length text → s.start ≡ end
-      → Sofar text (set spans i s) (i + 1) next (s.start + s.length)
-  sofar_more {s} {next} l f to e =
+  pub sofar_more : {s : Span} {more : List ℕ} → i < 12 → Begins (entry_text i) InEntry s rest more → s.start ≡ end → Sofar text (set spans i s) (i + 1) more (s.start + s.length)
+  sofar_more {s} {more} l f e =
       let room : i < length spans = omega (arith, h.twelve) in
       record {
         twelve = simp length-set h.twelve;
-        entries = records.sofar_more contents h.entries room f to (e ∙ h.ends);
+        entries = records.sofar_more contents h.entries room f (e ∙ h.ends);
         ends = sym (ap (last_end 252) (take_more_set spans i s room) ∙ last_end_push 252 (take i spans) s);
       }
 
-  pub bad_entry : i < 12 → NoEntry i (drop at text) → ContentsVerdict text (Err (Form (i + 1)))
+  pub bad_entry : i < 12 → NoneFirst (Begins (entry_text i) InEntry) rest → ContentsVerdict text (Err (Form (i + 1)))
   bad_entry l none = record {
-    stop = out_of_form (take i spans) (drop at text);
+    stop = out_of_form (take i spans) rest;
     stops = records.stops_form contents h.entries 12 h.twelve l none;
     says = ap (λ k. Err (Form (k + 1))) long;
   }
 
-  pub bad_start : {s : Span} {more : List ℕ} → i < 12 → Begins (entry_text i) InEntry s (drop at text) more → (s.start ≡ end → ⊥) → ContentsVerdict text (Err (Start (i + 1)))
+  pub bad_start : {s : Span} {more : List ℕ} → i < 12 → Begins (entry_text i) InEntry s rest more → (s.start ≡ end → ⊥) → ContentsVerdict text (Err (Start (i + 1)))
   bad_start l f other = record {
-    stop = out_of_limits (take i spans) (drop at text);
+    stop = out_of_limits (take i spans) rest;
     stops = records.stops_limits contents h.entries 12 h.twelve l f (λ e. other (e ∙ sym h.ends));
     says = ap (λ k. Err (Start (k + 1))) long;
   }
 
   pub all_entries : 12 ≤ i → ContentsVerdict text (Ok spans)
-  all_entries l = record { stop = complete spans (drop at text); stops = records.stops_complete contents h.entries 12 h.twelve l; says = refl }
+  all_entries l = record { stop = complete spans rest; stops = records.stops_complete contents h.entries 12 h.twelve l; says = refl }

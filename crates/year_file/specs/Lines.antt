@@ -4,6 +4,7 @@ use Rattle.text.specs.Number.{Short, ended}
 use Rattle.records.specs.declared.slot.Slot.{Slot}
 use Rattle.records.specs.declared.slot.Outage.{Outage}
 use Rattle.records.specs.declared.slot.Outage.TheVariants.{NoOutage, PlannedStop, UnplannedStop, PlannedSuppression, UnplannedSuppression}
+use Rattle.year_file.specs.declared.body.Letters.{Letters}
 
 -- the letters -, P, U, p and u
 abbrev pub outage_letter : Outage → ℕ
@@ -17,16 +18,13 @@ outage_letter UnplannedSuppression = 117
 abbrev pub flag_letter : ℕ → Bool → ℕ
 flag_letter letter holds = cond holds letter 45
 
--- the outage, and whether the reserve is low, a dispatch instruction was given and papers were shown
-abbrev pub Letters : Type 0
-Letters = Outage × Bool × Bool × Bool
-
+-- what the letters of its line say
 abbrev pub letters_of : Slot → Letters
-letters_of s = (s.outage, s.low_reserve, s.dispatched, s.papers)
+letters_of s = record { outage = s.outage; low_reserve = s.low_reserve; dispatched = s.dispatched; papers = s.papers }
 
 -- the four letters, the last three L, D and E, and the line's end
 abbrev pub word : Letters → List ℕ
-word l = outage_letter l.0 ∷ flag_letter 76 l.1 ∷ flag_letter 68 l.2 ∷ flag_letter 69 l.3 ∷ 10 ∷ []
+word l = outage_letter l.outage ∷ flag_letter 76 l.low_reserve ∷ flag_letter 68 l.dispatched ∷ flag_letter 69 l.papers ∷ 10 ∷ []
 
 abbrev pub WordFirst : Letters → List ℕ → List ℕ → Type 0
 WordFirst l bs rest = bs ≡ word l ++ rest

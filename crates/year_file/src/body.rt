@@ -7,19 +7,13 @@ ghost use Rattle.year_file.specs.Lines.{InForm, ReadsLetter, WordFirst, outage_l
 ghost use Rattle.year_file.specs.Bodies.{Judged, Verdict, OneVerdict, ReadsBack, ShortLines, outcome};
 ghost use Rattle.year_file.specs.Refusals.{body_refusal};
 
-use calendar::slots_in;
+use calendar::{MOST_SLOTS, slots_in};
 use records::slot::{Outage, Slot};
 use refusal::Refusal;
-use text::read_number;
+use text::read_ended;
 
 // The most digits that a number may have.
 const MOST_DIGITS: usize = 7;
-
-// The letters of a line and its end.
-const WORD_BYTES: usize = 5;
-
-// The slots of a month of 31 days.
-const MOST_SLOTS: usize = 1488;
 
 // Why a body is refused. A line has its number, from 1.
 #[derive(Clone, Copy, Debug, PartialEq, Eq)]
@@ -34,11 +28,11 @@ pub enum BodyRefusal {
     LineCount,
 }
 
-impl BodyRefusal {
-    pub fn refusal(&self) -> Refusal
-        ensures { result ≡ body_refusal self.now }
-    {
-        let (number, place) = match *self {
+impl From<BodyRefusal> for Refusal {
+    ghost from_gives = { λ e r. r ≡ body_refusal e };
+
+    fn from(refused: BodyRefusal) -> Refusal {
+        let (number, place) = match refused {
             BodyRefusal::WrongSlotCount => (8, 0),
             BodyRefusal::Form(line) => (9, line),
             BodyRefusal::Limit(line) => (10, line),
@@ -72,76 +66,80 @@ fn read_flag(b: u8, letter: char) -> Option<bool>
     }
 }
 
-// The number that begins at `at`, with the blank after it.
-fn read_field(text: &[u8], at: usize) -> Option<(u32, usize)>
-    ensures { Reads (Begins field (Short 7)) text.now at result }
-{
-    let (n, end) = read_number(text, at, MOST_DIGITS)?;
-    if end < text.len() && text[end] == b' ' {
-        Some((n as u32, end + 1))
-    } else {
-        None
-    }
+// The four letters of a line.
+#[derive(Clone, Copy)]
+struct Letters {
+    outage: Outage,
+    low_reserve: bool,
+    dispatched: bool,
+    papers: bool,
 }
 
-// The four letters at `at`, with the line's end after them.
-fn read_word(text: &[u8], at: usize) -> Option<((Outage, bool, bool, bool), usize)>
-    ensures { Reads WordFirst text.now at result }
+// The number that begins the text, with the blank after it, and the rest.
+fn read_field(text: &[u8]) -> Option<(u32, &[u8])>
+    ensures { Reads (Begins field (Short 7)) text.now result }
 {
-    if text.len().saturating_sub(at) < WORD_BYTES {
-        return None;
-    }
-    let outage = read_outage(text[at])?;
-    let low_reserve = read_flag(text[at + 1], 'L')?;
-    let dispatched = read_flag(text[at + 2], 'D')?;
-    let papers = read_flag(text[at + 3], 'E')?;
-    if text[at + 4] != b'\n' {
-        return None;
-    }
-    Some(((outage, low_reserve, dispatched, papers), at + WORD_BYTES))
+    let (n, rest) = read_ended(text, MOST_DIGITS, b' ')?;
+    Some((n as u32, rest))
 }
 
-// The line that begins at `at`, and where the next one begins.
-fn read_line(text: &[u8], at: usize) -> Option<(Slot, usize)>
-    ensures { Reads (Begins slot_text InForm) text.now at result }
+// The four letters that begin the text, with the line's end after them, and the rest.
+fn read_word(text: &[u8]) -> Option<(Letters, &[u8])>
+    ensures { Reads WordFirst text.now result }
 {
-    let (supply, at) = read_field(text, at)?;
-    let (plan, at) = read_field(text, at)?;
-    let (offer, at) = read_field(text, at)?;
-    let (meter, at) = read_field(text, at)?;
-    let ((outage, low_reserve, dispatched, papers), at) = read_word(text, at)?;
+    let [outage, low_reserve, dispatched, papers, b'\n', rest @ ..] = text else {
+        return None;
+    };
+    let letters = Letters {
+        outage: read_outage(*outage)?,
+        low_reserve: read_flag(*low_reserve, 'L')?,
+        dispatched: read_flag(*dispatched, 'D')?,
+        papers: read_flag(*papers, 'E')?,
+    };
+    Some((letters, rest))
+}
+
+// The line that begins the text, and the rest.
+fn read_line(text: &[u8]) -> Option<(Slot, &[u8])>
+    ensures { Reads (Begins slot_text InForm) text.now result }
+{
+    let (supply, rest) = read_field(text)?;
+    let (plan, rest) = read_field(rest)?;
+    let (offer, rest) = read_field(rest)?;
+    let (meter, rest) = read_field(rest)?;
+    let (letters, rest) = read_word(rest)?;
     let slot = Slot {
         supply,
         plan,
         offer,
         meter,
-        outage,
-        low_reserve,
-        dispatched,
-        papers,
+        outage: letters.outage,
+        low_reserve: letters.low_reserve,
+        dispatched: letters.dispatched,
+        papers: letters.papers,
     };
-    Some((slot, at))
+    Some((slot, rest))
 }
 
 // Reads as many lines as there are slots. After a refusal some slots may be new.
 fn read_lines(text: &[u8], slots: &mut [Slot]) -> Result<(), BodyRefusal>
     ensures { Judged (length slots.old) text.now (outcome result slots.new) }
 {
-    let mut at = 0;
-    for i in 0..slots.len() {
-        if at == text.len() {
+    let mut rest = text;
+    for (i, slot) in slots.iter_mut().enumerate() {
+        if rest.is_empty() {
             return Err(BodyRefusal::LineCount);
         }
-        let Some((slot, next)) = read_line(text, at) else {
+        let Some((read, more)) = read_line(rest) else {
             return Err(BodyRefusal::Form(i + 1));
         };
-        if !slot.is_within() {
+        if !read.is_within() {
             return Err(BodyRefusal::Limit(i + 1));
         }
-        slots[i] = slot;
-        at = next;
+        *slot = read;
+        rest = more;
     }
-    if at == text.len() {
+    if rest.is_empty() {
         Ok(())
     } else {
         Err(BodyRefusal::LineCount)
@@ -149,6 +147,7 @@ fn read_lines(text: &[u8], slots: &mut [Slot]) -> Result<(), BodyRefusal>
 }
 
 // Reads the slots of a month of a fiscal year. A refusal leaves them as they were.
+#[tactic(auto, using(crate::proofs::Bodies::body_laws))]
 pub fn read_body(year: u16, month: u8, text: &[u8], slots: &mut [Slot]) -> Result<(), BodyRefusal>
     ensures verdict { Verdict (slots_in year month) (length slots.old) text.now (outcome result slots.new) }
     ensures unchanged { is_err result ≡ true → slots.new ≡ slots.old }
@@ -163,8 +162,9 @@ pub fn read_body(year: u16, month: u8, text: &[u8], slots: &mut [Slot]) -> Resul
     if slots.len() != count {
         return Err(BodyRefusal::WrongSlotCount);
     }
+    // Kept as an array with room for the longest month: there is no heap, and a refusal leaves the slots alone.
     let mut room = [Slot::EMPTY; MOST_SLOTS];
-    let read = &mut room[0..count];
+    let read = &mut room[..count];
     read_lines(text, read)?;
     slots.copy_from_slice(read);
     Ok(())

@@ -10,9 +10,10 @@ use refusal::Refusal;
 const MONTHS: usize = 12;
 
 // The bytes of twelve entries, after which the first body starts.
-const CONTENTS_BYTES: u32 = 252;
+pub const CONTENTS_BYTES: usize = 252;
 
-const MOST_BODY_BYTES: u32 = 60_000;
+// The most bytes of a body.
+pub const MOST_BODY_BYTES: u32 = 60_000;
 
 const MONTH_DIGITS: usize = 2;
 
@@ -40,11 +41,11 @@ pub enum ContentsRefusal {
     Start(usize),
 }
 
-impl ContentsRefusal {
-    pub fn refusal(&self) -> Refusal
-        ensures { result ≡ contents_refusal self.now }
-    {
-        let (number, place) = match *self {
+impl From<ContentsRefusal> for Refusal {
+    ghost from_gives = { λ e r. r ≡ contents_refusal e };
+
+    fn from(refused: ContentsRefusal) -> Refusal {
+        let (number, place) = match refused {
             ContentsRefusal::Form(month) => (6, month),
             ContentsRefusal::Start(month) => (7, month),
         };
@@ -52,45 +53,40 @@ impl ContentsRefusal {
     }
 }
 
-// The number of so many digits that begins at `at`, with the byte after it.
-fn read_column(text: &[u8], at: usize, width: usize, end: u8) -> Option<(u32, usize)>
+// The number of so many digits that begins the text, with the byte `end` after it, and the rest.
+fn read_column(text: &[u8], width: usize, end: u8) -> Option<(u32, &[u8])>
     requires { (0 < width) × (width ≤ 8) }
-    ensures { Reads (Begins (column width end) (Short width)) text.now at result }
+    ensures { Reads (Begins (column width end) (Short width)) text.now result }
 {
-    if text.len().saturating_sub(at) <= width {
-        return None;
-    }
+    let (digits, rest) = text.split_at_checked(width)?;
+    let rest = rest.strip_prefix(&[end])?;
     let mut n: u32 = 0;
-    for i in 0..width {
-        let b = text[at + i];
+    for b in digits {
         if !b.is_ascii_digit() {
             return None;
         }
-        n = n * 10 + (b - b'0') as u32;
+        n = n * 10 + (*b - b'0') as u32;
     }
-    if text[at + width] == end {
-        Some((n, at + width + 1))
-    } else {
-        None
-    }
+    Some((n, rest))
 }
 
-// The entry that begins at `at`, for the month at a place from 0, and where the next one begins.
-fn read_entry(text: &[u8], at: usize, place: u32) -> Option<(Span, usize)>
+// The entry that begins the text, for the month at a place from 0, and the rest.
+fn read_entry(text: &[u8], place: u32) -> Option<(Span, &[u8])>
     requires { place < 12 }
-    ensures { Reads (Begins (entry_text place) InEntry) text.now at result }
+    ensures { Reads (Begins (entry_text place) InEntry) text.now result }
 {
-    let (month, at) = read_column(text, at, MONTH_DIGITS, b' ')?;
-    let (start, at) = read_column(text, at, BYTE_DIGITS, b' ')?;
-    let (length, at) = read_column(text, at, BYTE_DIGITS, b'\n')?;
+    let (month, rest) = read_column(text, MONTH_DIGITS, b' ')?;
+    let (start, rest) = read_column(rest, BYTE_DIGITS, b' ')?;
+    let (length, rest) = read_column(rest, BYTE_DIGITS, b'\n')?;
     if month == place + 1 && length <= MOST_BODY_BYTES {
-        Some((Span { start, length }, at))
+        Some((Span { start, length }, rest))
     } else {
         None
     }
 }
 
 // Reads the contents at the start of a year's file. What comes after them is not looked at.
+#[tactic(auto, using(crate::proofs::Entries::twelve_fill))]
 pub fn read_contents(text: &[u8]) -> Result<Contents, ContentsRefusal>
     ensures verdict { ContentsVerdict text.now (spans_of result) }
     ensures one_verdict { OneContents }
@@ -100,18 +96,18 @@ pub fn read_contents(text: &[u8]) -> Result<Contents, ContentsRefusal>
         start: 0,
         length: 0,
     }; MONTHS];
-    let mut at = 0;
-    let mut end = CONTENTS_BYTES;
-    for i in 0..MONTHS {
-        let Some((span, next)) = read_entry(text, at, i as u32) else {
+    let mut rest = text;
+    let mut end = CONTENTS_BYTES as u32;
+    for (i, span) in spans.iter_mut().enumerate() {
+        let Some((read, more)) = read_entry(rest, i as u32) else {
             return Err(ContentsRefusal::Form(i + 1));
         };
-        if span.start != end {
+        if read.start != end {
             return Err(ContentsRefusal::Start(i + 1));
         }
-        end = span.start + span.length;
-        spans[i] = span;
-        at = next;
+        end = read.start + read.length;
+        *span = read;
+        rest = more;
     }
     Ok(Contents { spans })
 }

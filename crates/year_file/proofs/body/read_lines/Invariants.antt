@@ -1,5 +1,6 @@
-use Rattle.year_file.proofs.Bodies.{Sofar}
+use Rattle.text.proofs.Records.{Sofar}
+use Rattle.year_file.specs.Bodies.{body}
 use Rattle.year_file.proofs.body.read_lines.Given as goal
 
 abbrev pub invariant-loop-i : goal.invariant-loop-i
-invariant-loop-i l = Sofar l.text l.slots l.i l.at
+invariant-loop-i l = Sofar body l.text l.slots l.i l.rest

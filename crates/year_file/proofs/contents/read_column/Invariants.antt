@@ -1,5 +1,6 @@
-use Rattle.year_file.proofs.Columns.{Sofar}
+use Rattle.std.proofs.Common.{◌≡◌, take}
+use Rattle.std.specs.Str.Parse.{AllDigits, digits_value}
 use Rattle.year_file.proofs.contents.read_column.Given as goal
 
-abbrev pub invariant-loop-i : goal.invariant-loop-i
-invariant-loop-i l = Sofar l.text l.at l.i l.n
+abbrev pub invariant-loop-b : goal.invariant-loop-b
+invariant-loop-b l = AllDigits 10 (take l.b-index l.digits) × (digits_value 10 (take l.b-index l.digits) ≡ l.n)
