@@ -1,6 +1,6 @@
 -- Which slot lists can be assessed, and what rules come to over them.
-use Rattle.std.specs.Prelude.{◌≡◌, ℕ, ◌≤◌, T, List, ◌∷◌, ◌++◌, length, Some, sum_by}
-use Rattle.std.specs.List.{AllByRecursion}
+use Rattle.std.specs.Prelude.{◌≡◌, ℕ, ◌<◌, ◌≤◌, IsTrue, List, length, Some, All, HoldsAt, sum_by}
+use Rattle.std.specs.List.{AllWithin}
 use Rattle.calendar.specs.Calendar.{slots_in}
 use Rattle.records.specs.declared.slot.Slot.{Slot}
 use Rattle.records.specs.Slots.{Within, NoWorse}
@@ -24,22 +24,18 @@ pub record Lawful (rule : RuleOf) : Type 0 where
 -- a slot can be assessed: it is within its limits, and a suppressed plant supplies at most the assessed capacity
 pub record Fit (assessed : ℕ) (s : Slot) : Type 0 where
   pub within : Within s
-  pub suppression : T (suppressed s.outage) → s.supply ≤ assessed
+  pub suppression : IsTrue (suppressed s.outage) → s.supply ≤ assessed
 
 -- the first slot that cannot be assessed stands at the place, counted from 0
 pub record FirstUnfit (assessed : ℕ) (slots : List Slot) (place : ℕ) : Type 0 where
-  pub before : List Slot
-  pub slot : Slot
-  pub after : List Slot
-  pub split : slots ≡ before ++ slot ∷ after
-  pub here : length before ≡ place
-  pub fit_before : AllByRecursion (Fit assessed) before
-  pub unfit : Fit assessed slot → ⊥
+  pub in_list : place < length slots
+  pub fit_before : AllWithin (Fit assessed) slots 0 place
+  pub unfit : HoldsAt (λ s. ¬ Fit assessed s) slots place
 
 -- as many slots as the month has, each fit
 pub record FitSlots (month : OpenMonth) (slots : List Slot) : Type 0 where
   pub counted : slots_in month.year month.month ≡ Some (length slots)
-  pub fit : AllByRecursion (Fit month.assessed) slots
+  pub fit : All (Fit month.assessed) slots
 
 -- when each refusal of a slot list is given
 abbrev pub Refuses : OpenMonth → List Slot → SlotsRefusal → Type 0

@@ -1,23 +1,28 @@
-// The three standard rules, each over the assessed capacity of priced terms, in kW.
+// The three standard rules, each over the assessed capacity of priced terms. Three types, since each has its own impl of
+// the trait.
 ghost use Rattle.std.specs.Prelude.{◌≤◌};
+
+// An assessed capacity, in kW.
+#[derive(Clone, Copy)]
+pub struct AssessedCapacity {
+    pub kilowatts: u32,
+    ghost limit: { kilowatts ≤ 2000000 },
+}
 
 // Rule 1: what the supply is short of the assessed capacity under an outage, five times that if it was not planned.
 #[derive(Clone, Copy)]
 pub struct OutageRule {
-    pub assessed: u32,
-    ghost limit: { assessed ≤ 2000000 },
+    pub assessed: AssessedCapacity,
 }
 
 // Rule 2: what was neither planned nor offered while the reserve was low.
 #[derive(Clone, Copy)]
 pub struct MarketRule {
-    pub assessed: u32,
-    ghost limit: { assessed ≤ 2000000 },
+    pub assessed: AssessedCapacity,
 }
 
 // Rule 3: what was not delivered on a dispatch instruction while the reserve was low.
 #[derive(Clone, Copy)]
 pub struct DispatchRule {
-    pub assessed: u32,
-    ghost limit: { assessed ≤ 2000000 },
+    pub assessed: AssessedCapacity,
 }

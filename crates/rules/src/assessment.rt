@@ -1,8 +1,10 @@
 // What three rules come to over a month.
-ghost use Rattle.std.specs.Prelude.{◌≤◌};
+ghost use Rattle.std.specs.Prelude.{◌≡◌, ℕ, ◌≤◌};
+
+use std::marker::Model;
 
 // One thing for each place that a rule is asked in.
-#[derive(Clone, Copy, Debug, PartialEq, Eq)]
+#[derive(Clone, Copy, Debug, Default, PartialEq, Eq)]
 pub struct PerRule<T> {
     pub outage: T,
     pub market: T,
@@ -17,12 +19,45 @@ pub struct OpenMonth {
     pub assessed: u32,
 }
 
+// The units of a month under a rule. Clauses see the number itself. It is at most ten million for each of 1,488 slots.
+#[derive(Clone, Copy, Debug, PartialEq, Eq)]
+pub struct Units {
+    pub count: u64,
+}
+
+impl Model for Units {
+    ghost Value = { ℕ };
+
+    ghost view = { λ units. units.count };
+
+    ghost invariant = { λ units. units.count ≤ 14880000000 };
+
+    ghost inverse = { λ n. record { count = n } };
+}
+
 // The numbers of the three rules, and the units of the month under each.
-#[derive(Clone, Copy)]
+#[derive(Clone, Copy, Debug, PartialEq, Eq)]
 pub struct Assessment {
     pub numbers: PerRule<u8>,
-    pub units: PerRule<u64>,
-    ghost limits: { (units.outage ≤ 14880000000) × (units.market ≤ 14880000000) × (units.dispatch ≤ 14880000000) },
+    pub units: PerRule<Units>,
+}
+
+impl Assessment {
+    // The units as plain numbers.
+    pub fn counts(&self) -> PerRule<u64>
+        ensures { result ≡ self.now.units }
+    {
+        let PerRule {
+            outage,
+            market,
+            dispatch,
+        } = self.units;
+        PerRule {
+            outage: outage.count,
+            market: market.count,
+            dispatch: dispatch.count,
+        }
+    }
 }
 
 // Why a slot list cannot be assessed: it has not the length of the month, or a slot of it, counted from 0, is not fit.

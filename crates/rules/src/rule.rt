@@ -11,21 +11,17 @@ pub trait Rule {
     // the rule's own number, from 1 to 255, which month lines record
     const NUMBER: u8;
 
-    // NUMBER, as clauses say it
-    ghost number_of: { ℕ };
+    // the same, as clauses read it
+    ghost NUMBER: { ℕ };
 
     // the units of a slot within its limits
     ghost meaning: { Self → Slot → ℕ };
-
-    // NUMBER, for code that is generic over the rule: a clause there cannot name the constant
-    fn own_number() -> u8
-        ensures { result ≡ number_of };
 
     fn units(&self, slot: &Slot) -> u32
         requires { Within slot.now }
         ensures { result ≡ meaning self.now slot.now };
 
-    ghost numbered: { (1 ≤ number_of) × (number_of ≤ 255) };
+    ghost numbered: { (1 ≤ NUMBER) × (NUMBER ≤ 255) };
 
     ghost range: { (rule : Self) (slot : Slot) → Within slot → meaning rule slot ≤ 10000000 };
 

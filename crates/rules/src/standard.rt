@@ -9,9 +9,9 @@ use records::slot::{Outage, Slot};
 impl Rule for OutageRule {
     const NUMBER: u8 = 1;
 
-    ghost number_of = { 1 };
+    ghost NUMBER = { 1 };
 
-    ghost meaning = { λ rule slot. outage_units rule.assessed slot };
+    ghost meaning = { λ rule slot. outage_units rule.assessed.kilowatts slot };
 
     ghost numbered = { Prim.search rules };
 
@@ -19,12 +19,8 @@ impl Rule for OutageRule {
 
     ghost no_worse = { Prim.search rules };
 
-    fn own_number() -> u8 {
-        Self::NUMBER
-    }
-
     fn units(&self, slot: &Slot) -> u32 {
-        let missing = self.assessed.saturating_sub(slot.supply);
+        let missing = self.assessed.kilowatts.saturating_sub(slot.supply);
         match slot.outage {
             Outage::NoOutage => 0,
             Outage::PlannedStop | Outage::PlannedSuppression => missing,
@@ -36,19 +32,15 @@ impl Rule for OutageRule {
 impl Rule for MarketRule {
     const NUMBER: u8 = 2;
 
-    ghost number_of = { 2 };
+    ghost NUMBER = { 2 };
 
-    ghost meaning = { λ rule slot. market_units rule.assessed slot };
+    ghost meaning = { λ rule slot. market_units rule.assessed.kilowatts slot };
 
     ghost numbered = { Prim.search rules };
 
     ghost range = { Prim.search rules };
 
     ghost no_worse = { Prim.search rules };
-
-    fn own_number() -> u8 {
-        Self::NUMBER
-    }
 
     fn units(&self, slot: &Slot) -> u32 {
         if !slot.low_reserve {
@@ -57,7 +49,8 @@ impl Rule for MarketRule {
         match slot.outage {
             Outage::PlannedStop | Outage::UnplannedStop => 0,
             _ => {
-                let surplus = self.assessed.min(slot.supply).saturating_sub(slot.plan);
+                let assessed = self.assessed.kilowatts;
+                let surplus = assessed.min(slot.supply).saturating_sub(slot.plan);
                 let offer = if slot.papers { slot.offer } else { 0 };
                 surplus.saturating_sub(offer)
             }
@@ -68,19 +61,15 @@ impl Rule for MarketRule {
 impl Rule for DispatchRule {
     const NUMBER: u8 = 3;
 
-    ghost number_of = { 3 };
+    ghost NUMBER = { 3 };
 
-    ghost meaning = { λ rule slot. dispatch_units rule.assessed slot };
+    ghost meaning = { λ rule slot. dispatch_units rule.assessed.kilowatts slot };
 
     ghost numbered = { Prim.search rules };
 
     ghost range = { Prim.search rules };
 
     ghost no_worse = { Prim.search rules };
-
-    fn own_number() -> u8 {
-        Self::NUMBER
-    }
 
     fn units(&self, slot: &Slot) -> u32 {
         if !slot.low_reserve || !slot.dispatched {
@@ -89,7 +78,7 @@ impl Rule for DispatchRule {
         let basis = match slot.outage {
             Outage::PlannedStop | Outage::UnplannedStop => return 0,
             Outage::PlannedSuppression | Outage::UnplannedSuppression => slot.supply,
-            Outage::NoOutage => self.assessed,
+            Outage::NoOutage => self.assessed.kilowatts,
         };
         basis.saturating_sub(2 * slot.meter)
     }

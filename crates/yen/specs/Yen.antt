@@ -1,5 +1,5 @@
 -- The yen of a month. Every division cuts its quotient to a whole yen, and none is made of a cut one.
-use Rattle.std.specs.Prelude.{ℕ, zero, suc, ◌+◌, ◌-◌, ◌*◌, ◌/◌, min, cond, ℤ, pos, negsuc, ◌-ℤ◌, ◌==◌}
+use Rattle.std.specs.Prelude.{ℕ, zero, suc, ◌+◌, ◌-◌, ◌*◌, ◌/◌, min, if◌then◌else◌, ℤ, pos, negsuc, ◌-ℤ◌, ◌==◌, List, ◌++◌, codes, decimal}
 use Rattle.rules.specs.declared.assessment.PerRule.{PerRule}
 use Rattle.terms.specs.declared.figures.Contract.{Contract}
 use Rattle.yen.specs.declared.Before.{Before}
@@ -9,7 +9,7 @@ use Rattle.yen.specs.declared.Settlement.TheVariants.{Payment, Claim, Neither}
 
 -- a twelfth of the year's amount; month 12 gets the rest
 abbrev pub amount_of : Contract → ℕ → ℕ
-amount_of c month = cond (month == 12) (c.amount - 11 * (c.amount / 12)) (c.amount / 12)
+amount_of c month = if month == 12 then c.amount - 11 * (c.amount / 12) else c.amount / 12
 
 -- the units of the month beyond the year's 8,640 for each kW, given those of the settled months
 abbrev pub excess : Contract → ℕ → ℕ → ℕ
@@ -53,3 +53,9 @@ abbrev pub settlement_of : ℤ → Settlement
 settlement_of (pos zero) = Neither
 settlement_of (pos (suc n)) = Payment (suc n)
 settlement_of (negsuc n) = Claim (suc n)
+
+-- what is printed of it
+abbrev pub settlement_text : Settlement → List ℕ
+settlement_text (Payment yen) = codes "a payment of " ++ decimal yen ++ codes " yen"
+settlement_text (Claim yen) = codes "a claim of " ++ decimal yen ++ codes " yen"
+settlement_text Neither = codes "neither payment nor claim"

@@ -1,13 +1,12 @@
 // Yen: what a month pays, what it is charged, and what it is answered with.
 #![tactic(auto)]
 
-ghost use Rattle.std.specs.Prelude.{◌≡◌, ◌+◌, ◌≤◌, pos, ◌-ℤ◌};
-ghost use Rattle.terms.specs.Sound.{Sound};
-ghost use Rattle.yen.specs.Yen.{amount_of, excess, outage_penalty, shortfall_penalty, charge, yen_of, settlement_of};
+ghost use Rattle.std.specs.Prelude.{◌≡◌, ◌≤◌, pos, ◌-ℤ◌, Some};
+ghost use Rattle.yen.specs.Yen.{amount_of, excess, outage_penalty, shortfall_penalty, charge, yen_of, settlement_of, settlement_text};
 
-use rules::assessment::{Assessment, PerRule};
+use rules::assessment::{Assessment, PerRule, Units};
+use std::fmt;
 use terms::contract::PricedTerms;
-use terms::figures::Contract;
 
 // What the settled months came to: their units under the outage rule, and what they were charged.
 #[derive(Clone, Copy, Debug, PartialEq, Eq)]
@@ -33,61 +32,87 @@ pub enum Settlement {
     Neither,
 }
 
-// A twelfth of the year's amount, cut; the last month gets the rest.
-fn amount_in(contract: &Contract, month: u8) -> u64
-    ensures { result ≡ amount_of contract.now month }
-{
-    let twelfth = contract.amount / 12;
-    if month == 12 {
-        contract.amount - 11 * twelfth
-    } else {
-        twelfth
+impl fmt::Display for Settlement {
+    ghost output = { λ s. Some (settlement_text s) };
+
+    fn fmt<W: fmt::Write>(&self, f: &mut fmt::Formatter<W>) -> fmt::Result {
+        match self {
+            Settlement::Payment(yen) => write!(f, "a payment of {yen} yen"),
+            Settlement::Claim(yen) => write!(f, "a claim of {yen} yen"),
+            Settlement::Neither => write!(f, "neither payment nor claim"),
+        }
     }
 }
 
-// The units of the month that go beyond what a year may be out without a penalty.
-fn excess_units(contract: &Contract, before: u64, units: u64) -> u64
-    ensures { result ≡ excess contract.now before units }
-{
-    let year_so_far = before as u128 + units as u128;
-    let free = 8_640 * contract.assessed as u128;
-    (units as u128).min(year_so_far.saturating_sub(free)) as u64
+// The year of a month's yen: its terms, and what the months before the month came to.
+#[derive(Clone, Copy)]
+struct YearSoFar<'a> {
+    terms: &'a PricedTerms,
+    before: &'a Before,
 }
 
-fn outage_penalty_of(contract: &Contract, before: u64, units: u64) -> u64
-    requires sound { Sound contract.now }
-    requires limit { units ≤ 14880000000 }
-    ensures { result ≡ outage_penalty contract.now before units }
-{
-    let excess = excess_units(contract, before, units);
-    let year = 8_000 * contract.assessed as u128;
-    (contract.amount as u128 * excess as u128 / year) as u64
-}
+impl YearSoFar<'_> {
+    // A twelfth of the year's amount, cut; the last month gets the rest.
+    fn amount_in(&self, month: u8) -> u64
+        ensures { result ≡ amount_of self.now.terms.now.contract month }
+    {
+        let contract = self.terms.contract();
+        let twelfth = contract.amount / 12;
+        if month == 12 {
+            contract.amount - 11 * twelfth
+        } else {
+            twelfth
+        }
+    }
 
-// The penalty of the market or the dispatch rule. Two units are a kilowatt-hour.
-fn shortfall_penalty_of(contract: &Contract, units: u64) -> u64
-    requires sound { Sound contract.now }
-    requires limit { units ≤ 14880000000 }
-    ensures { result ≡ shortfall_penalty contract.now units }
-{
-    let year = 2 * contract.capacity as u128 * contract.hours as u128;
-    (contract.amount as u128 * units as u128 / year) as u64
-}
+    // The units of the month that go beyond what a year may be out without a penalty.
+    fn excess(&self, units: Units) -> Units
+        ensures { result ≡ excess self.now.terms.now.contract self.now.before.now.outage_units units }
+    {
+        let so_far = u128::from(self.before.outage_units) + u128::from(units.count);
+        let free = 8_640 * u128::from(self.terms.contract().assessed);
+        Units {
+            count: u128::from(units.count).min(so_far.saturating_sub(free)) as u64,
+        }
+    }
 
-fn charged_of(contract: &Contract, before: u64, penalties: &PerRule<u64>) -> u64
-    requires sound { Sound contract.now }
-    requires limit { penalties.now.outage + penalties.now.market + penalties.now.dispatch ≤ 20000000000000000 }
-    ensures { result ≡ charge contract.now before penalties.now }
-{
-    let month_cap = 183 * contract.amount / 1_000;
-    let year_cap = 11 * contract.amount / 10;
-    (penalties.outage + penalties.market + penalties.dispatch)
-        .min(month_cap)
-        .min(year_cap.saturating_sub(before))
+    fn outage_penalty(&self, units: Units) -> u64
+        ensures { result ≡ outage_penalty self.now.terms.now.contract self.now.before.now.outage_units units }
+    {
+        let contract = self.terms.contract();
+        let excess = self.excess(units);
+        let year = 8_000 * u128::from(contract.assessed);
+        (u128::from(contract.amount) * u128::from(excess.count) / year) as u64
+    }
+
+    // The penalty of the market or the dispatch rule. Two units are a kilowatt-hour.
+    fn shortfall_penalty(&self, units: Units) -> u64
+        ensures { result ≡ shortfall_penalty self.now.terms.now.contract units }
+    {
+        let contract = self.terms.contract();
+        let year = 2 * u128::from(contract.capacity) * u128::from(contract.hours);
+        (u128::from(contract.amount) * u128::from(units.count) / year) as u64
+    }
+
+    // What is charged of the penalties. Their sum, were it past 64 bits, would be cut to the month's cap like any other.
+    fn charged(&self, penalties: &PerRule<u64>) -> u64
+        ensures { result ≡ charge self.now.terms.now.contract self.now.before.now.charged penalties.now }
+    {
+        let contract = self.terms.contract();
+        let month_cap = 183 * contract.amount / 1_000;
+        let year_cap = 11 * contract.amount / 10;
+        penalties
+            .outage
+            .saturating_add(penalties.market)
+            .saturating_add(penalties.dispatch)
+            .min(month_cap)
+            .min(year_cap.saturating_sub(self.before.charged))
+    }
 }
 
 fn net_of(amount: u64, charged: u64) -> i64
-    requires { (amount ≤ 2000000000000) × (charged ≤ 2200000000000) }
+    requires amount { amount ≤ 2000000000000 }
+    requires charged { charged ≤ 2200000000000 }
     ensures { result ≡ pos amount -ℤ pos charged }
 {
     amount as i64 - charged as i64
@@ -102,15 +127,15 @@ pub fn month_yen(
 ) -> MonthYen
     ensures { result ≡ yen_of terms.now.contract month before.now assessment.now.units }
 {
-    let contract = terms.contract();
+    let year = YearSoFar { terms, before };
     let units = assessment.units;
-    let amount = amount_in(&contract, month);
+    let amount = year.amount_in(month);
     let penalties = PerRule {
-        outage: outage_penalty_of(&contract, before.outage_units, units.outage),
-        market: shortfall_penalty_of(&contract, units.market),
-        dispatch: shortfall_penalty_of(&contract, units.dispatch),
+        outage: year.outage_penalty(units.outage),
+        market: year.shortfall_penalty(units.market),
+        dispatch: year.shortfall_penalty(units.dispatch),
     };
-    let charged = charged_of(&contract, before.charged, &penalties);
+    let charged = year.charged(&penalties);
     MonthYen {
         amount,
         penalties,
@@ -120,6 +145,7 @@ pub fn month_yen(
 }
 
 // A net above zero is a payment, below zero a claim of that size, and at zero neither.
+// Kept as a function: as a `From<i64>` it would no longer say that the number is a net.
 pub fn settle_net(net: i64) -> Settlement
     ensures { result ≡ settlement_of net }
 {
