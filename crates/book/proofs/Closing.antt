@@ -3,24 +3,14 @@ use Rattle.std.proofs.Common.{◌≡◌, ℕ, ◌<◌, ◌≤◌, true, false, L
 use Rattle.records.specs.declared.slot.Slot.{Slot}
 use Rattle.rules.specs.declared.assessment.OpenMonth.{OpenMonth}
 use Rattle.rules.specs.declared.assessment.PerRule.{PerRule}
-use Rattle.rules.specs.declared.assessment.SlotsRefusal.{SlotsRefusal}
-use Rattle.rules.specs.declared.assessment.SlotsRefusal.TheVariants.{WrongSlotCount, UnfitSlot}
-use Rattle.rules.specs.Months.{RuleOf, FitSlots, Refuses, Assesses, numbers_of, units_of}
+use Rattle.rules.specs.Months.{RuleOf, FitSlots, Assesses, numbers_of, units_of}
 use Rattle.book.specs.declared.line.Line.{Line}
 use Rattle.book.specs.declared.table.Table.{Table}
 use Rattle.book.specs.declared.table.Notice.{Notice}
 use Rattle.book.specs.Lines.{empty}
-use Rattle.book.specs.Refusals.{from_slots}
-use Rattle.book.specs.Calls.{open_month, next_line, notice_of, with_line, Closes, RefusesClose, Awaits, HandedBack}
+use Rattle.book.specs.Calls.{open_month, next_line, notice_of, with_line, Closes, Awaits, HandedBack}
 
 module _ (a : Table) (slots : List Slot) (none_out : a.out ≡ false) (left : a.settled < 12) where
-  refused_at : (e : SlotsRefusal) → Refuses (open_month a) slots e → RefusesClose a slots (from_slots e)
-  refused_at WrongSlotCount w = (none_out, left, w)
-  refused_at (UnfitSlot place) w = (none_out, left, w.0, w.1)
-
-  pub refused_by : {m : OpenMonth} → m ≡ open_month a → (e : SlotsRefusal) → Refuses m slots e → RefusesClose a slots (from_slots e)
-  refused_by same e w = refused_at e (subst (λ m. Refuses m slots e) same w)
-
   pub closes_by : {m : OpenMonth} {rules : PerRule RuleOf} {numbers units : PerRule ℕ} {l : Line} → m ≡ open_month a → Assesses m slots rules numbers units → l ≡ next_line a numbers units → Closes a slots rules (notice_of a l) (with_line a l true a.issue)
   closes_by {m} {rules} {numbers} {units} {l} same s e =
       let line : l ≡ next_line a (numbers_of rules) (units_of rules slots) = e ∙ (λ i. next_line a (s.own_numbers i) (s.summed i)) in

@@ -1,10 +1,9 @@
 -- What a table that has a history keeps, and how its history goes on.
-use Rattle.std.proofs.Common.{◌≡◌, ℕ, ◌+◌, ◌-◌, ◌<◌, ◌≤◌, true, List, [], ◌∷◌, length, take, ℤ, ◌≤ℤ◌, sym, refl, subst, arith, take-suc}
+use Rattle.std.proofs.Common.{◌≡◌, ℕ, ◌+◌, ◌-◌, ◌<◌, ◌≤◌, true, List, [], ◌∷◌, length, take, All, sym, subst, arith, take-suc}
 use mathlib.Core.Logic.{∥∥₁_elim, ∥∥₁_map}
 use native.Mathlib.Bridge.{le_prop}
-use lib.Dec.{T_prop}
-use Rattle.std.specs.List.{AllByRecursion}
-use Rattle.std.proofs.ByRecursion.{All-get_or, All-push, All-take}
+use Rattle.std.proofs.Props.{props}
+use Rattle.std.proofs.lemmas.List.Elements.{All-nil, All-head, All-tail, All-get_or, All-push, All-take}
 use Rattle.std.proofs.lemmas.List.{get_or-take, length-take-le, take-take}
 use Rattle.std.proofs.lemmas.Int.{ints}
 use Rattle.terms.specs.declared.contract.PricedTerms.{PricedTerms}
@@ -47,32 +46,15 @@ modest_month c s m ms early sound =
       net_upto = omega (arith, ints, amount, amount_limit c s);
     }
 
-modest_lines : (c : Contract) → Sound c → (ms : List Month) (ls : List Line) → length ms ≤ 12 → length ms ≤ length ls → AllByRecursion SoundMonth ms → Stands c ms ls → AllByRecursion Modest (take (length ms) ls)
-modest_lines c s [] ls early le sound st = tt
+modest_lines : (c : Contract) → Sound c → (ms : List Month) (ls : List Line) → length ms ≤ 12 → length ms ≤ length ls → All SoundMonth ms → Stands c ms ls → All Modest (take (length ms) ls)
+modest_lines c s [] ls early le sound st = All-nil Modest
 modest_lines c s (m ∷ ms) ls early le sound st =
-    let here : Modest (line_at ls (length ms)) = subst Modest (sym st.1) (modest_month c s m ms early sound.0) in
-    subst (AllByRecursion Modest) (sym (take-suc ls (length ms) empty le)) (All-push Modest (take (length ms) ls) (line_at ls (length ms)) (modest_lines c s ms ls (omega arith) (omega arith) sound.1 st.0) here)
+    let here : Modest (line_at ls (length ms)) = subst Modest (sym st.1) (modest_month c s m ms early (All-head SoundMonth m ms sound)) in
+    subst (All Modest) (sym (take-suc ls (length ms) empty le)) (All-push Modest (take (length ms) ls) (line_at ls (length ms)) (modest_lines c s ms ls (omega arith) (omega arith) (All-tail SoundMonth m ms sound) st.0) here)
 
--- these facts have at most one proof, so a table that has a history has them
-≤ℤ_prop : {a b : ℤ} → IsProp (a ≤ℤ b)
-≤ℤ_prop u v = λ i. record { le = T_prop _ u.le v.le i }
-
-modest_prop : (l : Line) → IsProp (Modest l)
-modest_prop l u v = λ i. record {
-  month = le_prop u.month v.month i;
-  outage_units = le_prop u.outage_units v.outage_units i;
-  amount = le_prop u.amount v.amount i;
-  outage = le_prop u.outage v.outage i;
-  market = le_prop u.market v.market i;
-  dispatch = le_prop u.dispatch v.dispatch i;
-  charged = le_prop u.charged v.charged i;
-  net_from = ≤ℤ_prop u.net_from v.net_from i;
-  net_upto = ≤ℤ_prop u.net_upto v.net_upto i;
-}
-
-all_prop : {X : Type 0} {P : X → Type 0} → ((x : X) → IsProp (P x)) → (xs : List X) → IsProp (AllByRecursion P xs)
-all_prop one [] u v = refl
-all_prop one (x ∷ xs) u v = λ i. (one x u.0 v.0 i, all_prop one xs u.1 v.1 i)
+-- a table that has a history has this fact, which has one proof at most
+all_prop : (ls : List Line) → IsProp (All Modest ls)
+all_prop ls = Prim.hlevel props
 
 module _ {a : Table} (h : HasHistory a) where
   pub year : a.settled ≤ 12
@@ -81,25 +63,22 @@ module _ {a : Table} (h : HasHistory a) where
   pub lines_there : 12 ≤ length a.lines
   lines_there = ∥∥₁_elim h le_prop (λ l. omega (arith, (kept l.2).twelve))
 
-  pub issue_fits : a.issue ≤ 99
-  issue_fits = ∥∥₁_elim h le_prop (λ l. (kept l.2).issue_fits)
-
   pub month_out : a.out ≡ true → a.settled < 12
   month_out o = ∥∥₁_elim h le_prop (λ l. ((kept l.2).waiting o).0)
 
-  pub modest_shown : AllByRecursion Modest (take (shown a) a.lines)
-  modest_shown = ∥∥₁_elim h (all_prop modest_prop (take (shown a) a.lines)) (λ l.
+  pub modest_shown : All Modest (take (shown a) a.lines)
+  modest_shown = ∥∥₁_elim h (all_prop (take (shown a) a.lines)) (λ l.
       let k = kept l.2 in
       let s = shown_months k in
-      subst (λ n. AllByRecursion Modest (take n a.lines)) s.counted (modest_lines l.0.contract (priced.sound l.0) s.months a.lines s.year (omega (arith, s.year, k.twelve)) s.sound s.stand))
+      subst (λ n. All Modest (take n a.lines)) s.counted (modest_lines l.0.contract (priced.sound l.0) s.months a.lines s.year (omega (arith, s.year, k.twelve)) s.sound s.stand))
 
   pub shown_year : shown a ≤ 12
   shown_year = ∥∥₁_elim h le_prop (λ l. let s = shown_months (kept l.2) in omega (arith, s.counted, s.year))
 
-  pub modest_first : (n : ℕ) → n ≤ a.settled → AllByRecursion Modest (take n a.lines)
+  pub modest_first : (n : ℕ) → n ≤ a.settled → All Modest (take n a.lines)
   modest_first n le =
       let some : n ≤ shown a = omega arith in
-      subst (AllByRecursion Modest) (take-take n (shown a) a.lines some) (All-take Modest n (take (shown a) a.lines) modest_shown)
+      subst (All Modest) (take-take n (shown a) a.lines some) (All-take Modest n (take (shown a) a.lines) modest_shown)
 
   -- of a month that is settled or under notice, counted from 1
   pub modest_at : (month : ℕ) → 1 ≤ month → month ≤ shown a → Modest (line_at a.lines (month - 1))

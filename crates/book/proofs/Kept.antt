@@ -1,7 +1,7 @@
 -- What every history keeps of its table.
-use Rattle.std.proofs.Common.{◌≡◌, ℕ, zero, suc, ◌+◌, ◌<◌, ◌≤◌, Bool, true, false, cond, ◌≢◌, List, [], ◌∷◌, length, take, set, ℤ, pos, negsuc, ◌-ℤ◌, neg_ℤ, Ok, Err, sym, refl, ap, ◌∙◌, subst, add-one, arith, length-set, get_or-set_other, get_or-set_same}
-use Rattle.std.specs.List.{AllByRecursion}
+use Rattle.std.proofs.Common.{◌≡◌, ℕ, zero, suc, ◌+◌, ◌<◌, ◌≤◌, Bool, true, false, cond, ◌≢◌, List, [], ◌∷◌, length, take, All, set, ℤ, pos, negsuc, ◌-ℤ◌, neg_ℤ, Ok, Err, sym, refl, ap, ◌∙◌, subst, add-one, arith, length-set, get_or-set_other, get_or-set_same}
 use Rattle.std.proofs.lemmas.Int.{ints}
+use Rattle.std.proofs.lemmas.List.Elements.{All-nil, All-cons}
 use Rattle.std.proofs.lemmas.List.Sums.{sum_by_more}
 use Rattle.std.proofs.lemmas.Bool.{false≢true}
 use Rattle.records.specs.declared.slot.Slot.{Slot}
@@ -26,7 +26,7 @@ use Rattle.book.specs.Standing.{Event, closed, settled, objected, events, object
 pub record SoundMonth (m : Month) : Type 0 where
   pub lawful : LawfulRules m.rules
   pub few : length m.slots ≤ 1488
-  pub within : AllByRecursion Within m.slots
+  pub within : All Within m.slots
 
 pub record Kept (t : PricedTerms) (es : List Event) (a : Table) : Type 0 where
   pub same_terms : a.terms ≡ t
@@ -37,7 +37,7 @@ pub record Kept (t : PricedTerms) (es : List Event) (a : Table) : Type 0 where
   pub year : a.settled ≤ 12
   pub stood : Stands t.contract (standing es) a.lines
   pub waiting : a.out ≡ true → (a.settled < 12) × (line_at a.lines a.settled ≡ standing_line t.contract (pending es) (standing es))
-  pub sound : AllByRecursion SoundMonth (standing es)
+  pub sound : All SoundMonth (standing es)
   pub sound_next : a.out ≡ true → SoundMonth (pending es)
   pub squared : paid es + (carried t.contract (standing es)).charged ≡ amounts_in t.contract (length (standing es)) + claimed es
 
@@ -89,7 +89,7 @@ at_start t b o = subst (Kept t []) (sym o.fresh) (record {
   year = omega arith;
   stood = tt;
   waiting = not_out;
-  sound = tt;
+  sound = All-nil SoundMonth;
   sound_next = not_out;
   squared = refl;
 })
@@ -146,7 +146,7 @@ module _ (t : PricedTerms) (es : List Event) (a : Table) (k : Kept t es a) where
         year = omega (arith, wait.0);
         stood = (k.stood, ap (line_at a.lines) (sym k.counted) ∙ wait.1);
         waiting = not_out;
-        sound = (k.sound_next s.awaits.is_out, k.sound);
+        sound = All-cons SoundMonth (pending es) (standing es) (k.sound_next s.awaits.is_out) k.sound;
         sound_next = not_out;
         squared = money es r _ _ _ _ net k.squared;
       })
@@ -179,7 +179,7 @@ module _ {t : PricedTerms} {es : List Event} {a : Table} (k : Kept t es a) where
     pub counted : length months ≡ shown a
     pub year : length months ≤ 12
     pub stand : Stands t.contract months a.lines
-    pub sound : AllByRecursion SoundMonth months
+    pub sound : All SoundMonth months
 
   pub shown_months : ShownMonths
   shown_months = go a.out refl
@@ -190,7 +190,7 @@ module _ {t : PricedTerms} {es : List Event} {a : Table} (k : Kept t es a) where
         counted = omega (arith, k.counted, ap {B = ℕ} (λ (b : Bool). cond b 1 0) e);
         year = omega (arith, k.counted, (k.waiting e).0);
         stand = (k.stood, ap (line_at a.lines) (sym k.counted) ∙ (k.waiting e).1);
-        sound = (k.sound_next e, k.sound);
+        sound = All-cons SoundMonth (pending es) (standing es) (k.sound_next e) k.sound;
       }
       go false e = record {
         months = standing es;

@@ -1,3 +1,4 @@
+pub mod Emptied
 pub mod Adding
 pub mod Kept
 pub mod Has

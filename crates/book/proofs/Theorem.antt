@@ -1,11 +1,11 @@
 -- What holds of any two books.
-use Rattle.std.proofs.Common.{◌≡◌, ℕ, zero, suc, ◌+◌, ◌<◌, ◌≤◌, ◌⊎◌, List, [], ◌∷◌, reverse, length, get_or, take, pos, ◌+ℤ◌, sym, refl, ap, ◌∙◌, subst, inl, inr, div-mul-le_self, add-one, arith}
+use Rattle.std.proofs.Common.{◌≡◌, ℕ, zero, suc, ◌+◌, ◌<◌, ◌≤◌, ◌⊎◌, List, [], ◌∷◌, reverse, length, get_or, take, All, pos, ◌+ℤ◌, sym, refl, ap, ◌∙◌, subst, inl, inr, div-mul-le_self, add-one, arith}
 use mathlib.Core.List.{reverse-cons}
-use native.Mathlib.Decide.{dec_lt}
+use Rattle.std.proofs.Math.Nat.{eq-or-lt_of_le}
 use lib.ListN.{length-reverse}
-use Rattle.std.specs.List.{AllByRecursion}
 use Rattle.std.proofs.lemmas.List.{get_or_append_left, get_or_push, take_all}
 use Rattle.std.proofs.lemmas.Int.{ints}
+use Rattle.std.proofs.lemmas.List.Elements.{All-head, All-tail}
 use Rattle.std.proofs.lemmas.List.Sums.{sum_by_more, fold_more}
 use Rattle.rules.specs.Months.{numbers_of}
 use Rattle.rules.proofs.Slots.{no_more}
@@ -25,13 +25,6 @@ use Rattle.book.proofs.Kept.{SoundMonth, Kept, kept, carried_is, within_lines, s
 
 -- ---- months by their place
 
-split : (n l : ℕ) → n < suc l → (n ≡ l) ⊎ (n < l)
-split n l h = go (dec_lt n l)
-  where
-    go : Dec (n < l) → (n ≡ l) ⊎ (n < l)
-    go (yes k) = inr k
-    go (no f) = inl (omega arith)
-
 month_here : (m : Month) (ms : List Month) → month_at (m ∷ ms) (length ms) ≡ m
 unfolding month_at
 month_here m ms = ap (λ l. get_or l (length ms) no_month) (reverse-cons m ms) ∙ get_or_push (reverse ms) m no_month (length ms) (length-reverse ms)
@@ -41,27 +34,27 @@ unfolding month_at
 month_before m ms n h = ap (λ l. get_or l n no_month) (reverse-cons m ms) ∙ get_or_append_left (reverse ms) (m ∷ []) no_month n (subst (λ k. n < k) (sym (length-reverse ms)) h)
 
 by_months : (P : ℕ → Month → Type 0) (m : Month) (ms : List Month) → P (length ms) m → ((n : ℕ) → n < length ms → P n (month_at ms n)) → (n : ℕ) → n < suc (length ms) → P n (month_at (m ∷ ms) n)
-by_months P m ms here before n h = go (split n (length ms) h)
+by_months P m ms here before n h = go (eq-or-lt_of_le (omega arith))
   where
     go : (n ≡ length ms) ⊎ (n < length ms) → P n (month_at (m ∷ ms) n)
     go (inl e) = subst (λ k. P k (month_at (m ∷ ms) k)) (sym e) (subst (P (length ms)) (sym (month_here m ms)) here)
     go (inr k) = subst (P n) (sym (month_before m ms n k)) (before n k)
 
-sound_at : (ms : List Month) → AllByRecursion SoundMonth ms → (n : ℕ) → n < length ms → SoundMonth (month_at ms n)
+sound_at : (ms : List Month) → All SoundMonth ms → (n : ℕ) → n < length ms → SoundMonth (month_at ms n)
 sound_at [] s n h = absurd (omega arith)
-sound_at (m ∷ ms) s n h = by_months (λ n x. SoundMonth x) m ms s.0 (sound_at ms s.1) n h
+sound_at (m ∷ ms) s n h = by_months (λ n x. SoundMonth x) m ms (All-head SoundMonth m ms s) (sound_at ms (All-tail SoundMonth m ms s)) n h
 
 -- ---- lines by their place
 
 module _ (ls : List Line) (n : ℕ) (here : n < length ls) where
   charged_more : charged_in (take (suc n) ls) ≡ charged_in (take n ls) + (line_at ls n).charged
-  charged_more = subst (λ k. charged_in (take k ls) ≡ charged_in (take n ls) + (line_at ls n).charged) (add-one n) (sum_by_more (λ (l : Line). l.charged) ls n empty here)
+  charged_more = rw (← add-one n) (sum_by_more (λ (l : Line). l.charged) ls n empty here)
 
   units_more : outage_units_in (take (suc n) ls) ≡ outage_units_in (take n ls) + (line_at ls n).units.outage
-  units_more = subst (λ k. outage_units_in (take k ls) ≡ outage_units_in (take n ls) + (line_at ls n).units.outage) (add-one n) (sum_by_more (λ (l : Line). l.units.outage) ls n empty here)
+  units_more = rw (← add-one n) (sum_by_more (λ (l : Line). l.units.outage) ls n empty here)
 
   net_more : net_in (take (suc n) ls) ≡ net_in (take n ls) +ℤ (line_at ls n).net
-  net_more = subst (λ k. net_in (take k ls) ≡ net_in (take n ls) +ℤ (line_at ls n).net) (add-one n) (fold_more (λ z (l : Line). z +ℤ l.net) (pos 0) ls n empty here)
+  net_more = rw (← add-one n) (fold_more (λ z (l : Line). z +ℤ l.net) (pos 0) ls n empty here)
 
 -- the line of the month after the first n ones, from the lines of those
 abbrev LineAt : Contract → List Line → ℕ → Month → Type 0

@@ -1,5 +1,5 @@
 -- What each call of a book answers, and the whole table after it.
-use Rattle.std.specs.Prelude.{◌≡◌, ℕ, zero, suc, ◌+◌, ◌-◌, ◌<◌, ◌≤◌, Bool, true, false, cond, ◌⊎◌, List, ◌++◌, length, take, drop, replicate, Some, Result, MatchResult, slice_set}
+use Rattle.std.specs.Prelude.{◌≡◌, ℕ, zero, suc, ◌+◌, ◌-◌, ◌<◌, ◌≤◌, Bool, true, false, if◌then◌else◌, ◌⊎◌, List, ◌++◌, length, take, drop, replicate, Some, Result, MatchResult, slice_set}
 use Rattle.records.specs.declared.slot.Slot.{Slot}
 use Rattle.rules.specs.declared.assessment.OpenMonth.{OpenMonth}
 use Rattle.rules.specs.declared.assessment.PerRule.{PerRule}
@@ -121,7 +121,7 @@ Objected a n r b = MatchResult r (λ _. Objects a n b) (λ e. RefusesObject a n 
 
 -- how many months are settled or under notice
 abbrev pub shown : Table → ℕ
-shown a = a.settled + cond a.out 1 0
+shown a = a.settled + (if a.out then 1 else 0)
 
 abbrev pub Shown : Table → ℕ → Type 0
 Shown a month = (1 ≤ month) × (month ≤ shown a)

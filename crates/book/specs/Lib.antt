@@ -6,3 +6,4 @@ pub mod Standing
 pub mod Limits
 pub mod Promise
 pub mod Comparing
+pub mod Notices

@@ -1,47 +1,32 @@
 // The book and its calls.
-ghost use Rattle.std.specs.Prelude.{◌≡◌, ◌<◌, ◌≤◌, length, take, Decides, MatchOption};
-ghost use Rattle.std.specs.List.{AllByRecursion};
+#![tactic(auto, using(crate::proofs::Has::year, crate::proofs::Has::month_out))]
+
+ghost use Rattle.std.specs.Prelude.{◌≡◌, ◌<◌, ◌≤◌, take, ◌↔◌, IsTrue, MatchOption};
 ghost use Rattle.statement.specs.Text.{statement_text};
-ghost use Rattle.book.specs.Calls.{Opened, open_month, next_line, notice_of, standard_rules, Awaits, shown, Printable, text_at};
-ghost use Rattle.book.specs.Limits.{Modest};
+ghost use Rattle.book.specs.Calls.{Opened, settled_lines, open_month, next_line, standard_rules, Awaits, shown, Printable, text_at};
 ghost use Rattle.book.specs.History.{Step, closing, settling, objecting, reading_line, reading_totals, printing_line, HasHistory, ClosedAndSettled};
 
 use crate::line::{Line, Totals};
 use crate::refused::{
     CloseRefusal, ObjectRefusal, PrintLineRefusal, ReadLineRefusal, SettleRefusal,
 };
-use crate::statements::{of_line, of_totals};
-use crate::sums::{outage_units_of, totals_of};
-use crate::table::{Notice, NoticeNumbers, Table};
+use crate::settled::SettledLines;
+use crate::table::{Notice, Table};
 use records::slot::Slot;
-use rules::assessed::{DispatchRule, MarketRule, OutageRule};
+use rules::assessed::{AssessedCapacity, DispatchRule, MarketRule, OutageRule};
 use rules::assessment::{Assessment, OpenMonth};
 use rules::month::assess;
 use rules::rule::Rule;
 use statement::{Statement, print_statement};
 use terms::contract::PricedTerms;
 use terms::figures::Contract;
-use yen::{Before, Settlement, month_yen, settle_net};
+use yen::{Settlement, month_yen, settle_net};
 
 // Every book has a history: `led` says that calls of a book led to its table.
 #[derive(Drop)]
 pub struct Book {
     pub(crate) table: Table,
     ghost led: { HasHistory table },
-}
-
-// What the notice of a line says.
-fn numbers_of(table: &Table, line: &Line) -> NoticeNumbers
-    ensures { result ≡ (notice_of table.now line.now).numbers }
-{
-    let contract = table.terms.contract();
-    NoticeNumbers {
-        plant: contract.plant,
-        year: contract.year,
-        month: line.month,
-        issue: line.issue,
-        net: line.net,
-    }
 }
 
 impl Book {
@@ -51,7 +36,7 @@ impl Book {
     {
         let table = Table {
             terms,
-            lines: [Line::EMPTY; 12],
+            lines: [Line::default(); 12],
             settled: 0,
             out: false,
             issue: 1,
@@ -79,13 +64,20 @@ impl Book {
     }
 
     // The lines of the first months, which are settled.
-    pub(crate) fn first_lines(&self, months: u8) -> &[Line]
+    pub(crate) fn first_lines(&self, months: u8) -> SettledLines<'_>
         requires { months ≤ self.now.table.settled }
-        ensures value { result.now ≡ take months self.now.table.lines }
-        ensures year { length result.now ≤ 12 }
-        ensures modest { AllByRecursion Modest result.now }
+        ensures { result.lines.now ≡ take months self.now.table.lines }
     {
-        &self.table.lines[0..months as usize]
+        SettledLines {
+            lines: &self.table.lines[..months as usize],
+        }
+    }
+
+    // The lines of all settled months.
+    fn settled_lines(&self) -> SettledLines<'_>
+        ensures { result.lines.now ≡ settled_lines self.now.table }
+    {
+        self.first_lines(self.table.settled)
     }
 
     // The line of the first unsettled month, as it was assessed.
@@ -93,18 +85,14 @@ impl Book {
         requires { self.now.table.settled < 12 }
         ensures { result ≡ next_line self.now.table assessment.now.numbers assessment.now.units }
     {
-        let settled = self.first_lines(self.table.settled);
-        let before = Before {
-            outage_units: outage_units_of(settled),
-            charged: totals_of(settled).charged,
-        };
+        let before = self.settled_lines().before();
         let month = self.table.settled + 1;
         let yen = month_yen(&self.table.terms, month, &before, assessment);
         Line {
             month,
             issue: self.table.issue,
             rules: assessment.numbers,
-            units: assessment.units,
+            units: assessment.counts(),
             amount: yen.amount,
             penalties: yen.penalties,
             charged: yen.charged,
@@ -121,9 +109,9 @@ impl Book {
         dispatch: &R3,
     ) -> Result<Notice, CloseRefusal>
         ensures { Step self.old.table (closing slots.now (record {
-          outage = record { number = R1.number_of; units = R1.meaning outage.now };
-          market = record { number = R2.number_of; units = R2.meaning market.now };
-          dispatch = record { number = R3.number_of; units = R3.meaning dispatch.now };
+          outage = record { number = R1.NUMBER; units = R1.meaning outage.now };
+          market = record { number = R2.NUMBER; units = R2.meaning market.now };
+          dispatch = record { number = R3.NUMBER; units = R3.meaning dispatch.now };
         }) result) self.new.table }
     {
         if self.table.out {
@@ -138,7 +126,7 @@ impl Book {
         self.table.lines[self.table.settled as usize] = line;
         self.table.out = true;
         Ok(Notice {
-            numbers: numbers_of(&self.table, &line),
+            numbers: self.table.numbers_of(&line),
         })
     }
 
@@ -146,7 +134,8 @@ impl Book {
     pub fn close(&mut self, slots: &[Slot]) -> Result<Notice, CloseRefusal>
         ensures { Step self.old.table (closing slots.now (standard_rules self.old.table.terms.contract.assessed) result) self.new.table }
     {
-        let assessed = self.contract().assessed;
+        let kilowatts = self.contract().assessed;
+        let assessed = AssessedCapacity { kilowatts };
         self.close_by(
             slots,
             &OutageRule { assessed },
@@ -157,13 +146,13 @@ impl Book {
 
     // Whether the notice is the one that is out.
     fn awaits(&self, notice: &Notice) -> bool
-        ensures { Decides result (Awaits self.now.table notice.now) }
+        ensures { IsTrue result ↔ Awaits self.now.table notice.now }
     {
         if !self.table.out {
             return false;
         }
-        let line = self.table.lines[self.table.settled as usize];
-        notice.numbers == numbers_of(&self.table, &line)
+        let line = &self.table.lines[self.table.settled as usize];
+        notice.numbers == self.table.numbers_of(line)
     }
 
     // Settles the month of the notice, and answers what is paid or claimed for it.
@@ -191,7 +180,7 @@ impl Book {
             return Err((notice, ObjectRefusal::LastIssue));
         }
         let Notice { numbers: _ } = notice;
-        self.table.lines[self.table.settled as usize] = Line::EMPTY;
+        self.table.lines[self.table.settled as usize] = Line::default();
         self.table.out = false;
         self.table.issue += 1;
         Ok(())
@@ -202,11 +191,7 @@ impl Book {
         ensures value { result ≡ shown self.now.table }
         ensures year { result ≤ 12 }
     {
-        if self.table.out {
-            self.table.settled + 1
-        } else {
-            self.table.settled
-        }
+        self.table.settled + u8::from(self.table.out)
     }
 
     // The line of a month that is settled or under notice.
@@ -223,20 +208,31 @@ impl Book {
     pub fn read_totals(&self) -> Totals
         ensures { Step self.now.table (reading_totals result) self.now.table }
     {
-        totals_of(self.first_lines(self.table.settled))
+        self.settled_lines().totals()
     }
 
     // The statement of a month that is settled or under notice, or of the totals as month 0.
-    fn statement_of(&self, month: u8) -> Option<Statement>
+    pub fn statement(&self, month: u8) -> Option<Statement>
         ensures { MatchOption result (Printable self.now.table month → ⊥) (λ s. Printable self.now.table month × (statement_text s ≡ text_at self.now.table month)) }
     {
         if month == 0 {
-            return Some(of_totals(&totals_of(self.first_lines(self.table.settled))));
+            let totals = self.settled_lines().totals();
+            return Some(Statement {
+                month,
+                amount: totals.amount,
+                penalties: totals.penalties,
+                charged: totals.charged,
+                net: totals.net,
+            });
         }
-        match self.read_line(month) {
-            Ok(line) => Some(of_line(&line)),
-            Err(ReadLineRefusal::NoLine) => None,
-        }
+        let line = self.read_line(month).ok()?;
+        Some(Statement {
+            month: line.month,
+            amount: line.amount,
+            penalties: line.penalties,
+            charged: line.charged,
+            net: line.net,
+        })
     }
 
     // Writes the statement line of a month, or of the totals as month 0, at the start of the buffer, and answers its
@@ -244,13 +240,8 @@ impl Book {
     pub fn print_line(&self, month: u8, out: &mut [u8]) -> Result<usize, PrintLineRefusal>
         ensures { Step self.now.table (printing_line month out.old result out.new) self.now.table }
     {
-        let Some(statement) = self.statement_of(month) else {
-            return Err(PrintLineRefusal::NoLine);
-        };
-        match print_statement(&statement, out) {
-            Some(length) => Ok(length),
-            None => Err(PrintLineRefusal::ShortBuffer),
-        }
+        let statement = self.statement(month).ok_or(PrintLineRefusal::NoLine)?;
+        print_statement(&statement, out).ok_or(PrintLineRefusal::ShortBuffer)
     }
 
     // Closes the first unsettled month by the standard rules and settles it at once, so that no notice is left.
@@ -258,9 +249,10 @@ impl Book {
         ensures { ClosedAndSettled self.old.table slots.now result self.new.table }
     {
         let notice = self.close(slots)?;
+        // A match: the error holds a notice, which may not be let go.
         match self.settle(notice) {
             Ok(settlement) => Ok(settlement),
-            Err((_notice, _refusal)) => unreachable(),
+            Err((_notice, _refusal)) => unreachable!(),
         }
     }
 }

@@ -1,27 +1,10 @@
 // Two books beside each other.
-ghost use Rattle.std.specs.Prelude.{◌≡◌, ◌≤◌, length};
-ghost use Rattle.std.specs.List.{AllByRecursion};
-ghost use Rattle.book.specs.Comparing.{Compares, sums_of};
+ghost use Rattle.book.specs.Comparing.{Compares};
 ghost use Rattle.book.specs.History.{HasHistory};
-ghost use Rattle.book.specs.Limits.{Modest};
 ghost use Rattle.book.specs.Promise.{NoBetterKeptYearCostsMore};
 
 use crate::book::Book;
-use crate::comparison::{Comparison, Sums};
-use crate::line::Line;
-use crate::sums::totals_of;
-
-fn sums_of(lines: &[Line]) -> Sums
-    requires year { length lines.now ≤ 12 }
-    requires modest { AllByRecursion Modest lines.now }
-    ensures { result ≡ sums_of lines.now }
-{
-    let totals = totals_of(lines);
-    Sums {
-        charged: totals.charged,
-        net: totals.net,
-    }
-}
+use crate::comparison::Comparison;
 
 // Compares two books over the months that both have settled. No better-kept year costs its plant more: whatever calls
 // led to the two books, and whatever rules they were closed by.
@@ -33,7 +16,7 @@ pub fn compare(first: &Book, second: &Book) -> Comparison
     let months = first.table.settled.min(second.table.settled);
     Comparison {
         months,
-        first: sums_of(first.first_lines(months)),
-        second: sums_of(second.first_lines(months)),
+        first: first.first_lines(months).sums(),
+        second: second.first_lines(months).sums(),
     }
 }

@@ -7,6 +7,5 @@ pub mod comparison;
 pub mod line;
 pub mod refusals;
 pub mod refused;
-mod statements;
-mod sums;
+mod settled;
 pub mod table;

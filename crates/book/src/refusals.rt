@@ -14,11 +14,11 @@ const fn without_place(number: u8) -> Refusal
     Refusal { number, place: 0 }
 }
 
-impl CloseRefusal {
-    pub fn refusal(&self) -> Refusal
-        ensures { result ≡ close_refusal self.now }
-    {
-        match *self {
+impl From<CloseRefusal> for Refusal {
+    ghost from_gives = { λ e r. r ≡ close_refusal e };
+
+    fn from(refusal: CloseRefusal) -> Refusal {
+        match refusal {
             CloseRefusal::NoticeOut => without_place(12),
             CloseRefusal::YearSettled => without_place(13),
             CloseRefusal::WrongSlotCount => without_place(14),
@@ -27,6 +27,7 @@ impl CloseRefusal {
     }
 }
 
+// By hand, as contracts cite what `?` makes of it; a derive has no contract.
 impl From<SlotsRefusal> for CloseRefusal {
     ghost from_gives = { λ s r. r ≡ from_slots s };
 
@@ -38,42 +39,42 @@ impl From<SlotsRefusal> for CloseRefusal {
     }
 }
 
-impl SettleRefusal {
-    pub fn refusal(&self) -> Refusal
-        ensures { result ≡ settle_refusal self.now }
-    {
-        match self {
+impl From<SettleRefusal> for Refusal {
+    ghost from_gives = { λ e r. r ≡ settle_refusal e };
+
+    fn from(refusal: SettleRefusal) -> Refusal {
+        match refusal {
             SettleRefusal::OtherNotice => without_place(16),
         }
     }
 }
 
-impl ObjectRefusal {
-    pub fn refusal(&self) -> Refusal
-        ensures { result ≡ object_refusal self.now }
-    {
-        match self {
+impl From<ObjectRefusal> for Refusal {
+    ghost from_gives = { λ e r. r ≡ object_refusal e };
+
+    fn from(refusal: ObjectRefusal) -> Refusal {
+        match refusal {
             ObjectRefusal::OtherNotice => without_place(16),
             ObjectRefusal::LastIssue => without_place(17),
         }
     }
 }
 
-impl ReadLineRefusal {
-    pub fn refusal(&self) -> Refusal
-        ensures { result ≡ read_line_refusal self.now }
-    {
-        match self {
+impl From<ReadLineRefusal> for Refusal {
+    ghost from_gives = { λ e r. r ≡ read_line_refusal e };
+
+    fn from(refusal: ReadLineRefusal) -> Refusal {
+        match refusal {
             ReadLineRefusal::NoLine => without_place(18),
         }
     }
 }
 
-impl PrintLineRefusal {
-    pub fn refusal(&self) -> Refusal
-        ensures { result ≡ print_line_refusal self.now }
-    {
-        match self {
+impl From<PrintLineRefusal> for Refusal {
+    ghost from_gives = { λ e r. r ≡ print_line_refusal e };
+
+    fn from(refusal: PrintLineRefusal) -> Refusal {
+        match refusal {
             PrintLineRefusal::NoLine => without_place(18),
             PrintLineRefusal::ShortBuffer => without_place(19),
         }

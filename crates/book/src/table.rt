@@ -1,13 +1,17 @@
 // The plain data of a book, which the contracts speak of.
-ghost use Rattle.std.specs.Prelude.{◌≡◌};
+ghost use Rattle.std.specs.Prelude.{◌≡◌, Some};
+ghost use Rattle.book.specs.Calls.{notice_of};
+ghost use Rattle.book.specs.Notices.{notice_text};
 
 use crate::line::Line;
+use std::fmt;
 use terms::contract::PricedTerms;
 
 #[derive(Clone, Copy)]
 pub struct Table {
     pub(crate) terms: PricedTerms,
-    // one line for each month, empty unless the month is settled or its notice is out
+    // One line for each month, empty unless the month is settled or its notice is out. Kept as an array with a count
+    // and a flag: a library has no heap, and all twelve lines are there from the start.
     pub(crate) lines: [Line; 12],
     // how many months are settled
     pub(crate) settled: u8,
@@ -15,6 +19,22 @@ pub struct Table {
     pub(crate) out: bool,
     // the issue of that month's notice
     pub(crate) issue: u8,
+}
+
+impl Table {
+    // What the notice of a line says.
+    pub(crate) fn numbers_of(&self, line: &Line) -> NoticeNumbers
+        ensures { result ≡ (notice_of self.now line.now).numbers }
+    {
+        let contract = self.terms.contract();
+        NoticeNumbers {
+            plant: contract.plant,
+            year: contract.year,
+            month: line.month,
+            issue: line.issue,
+            net: line.net,
+        }
+    }
 }
 
 // What a notice says.
@@ -25,6 +45,18 @@ pub struct NoticeNumbers {
     pub month: u8,
     pub issue: u8,
     pub net: i64,
+}
+
+impl fmt::Display for NoticeNumbers {
+    ghost output = { λ n. Some (notice_text n) };
+
+    fn fmt<W: fmt::Write>(&self, f: &mut fmt::Formatter<W>) -> fmt::Result {
+        write!(
+            f,
+            "notice of plant {}, year {}, month {}, issue {}, net {} yen",
+            self.plant, self.year, self.month, self.issue, self.net
+        )
+    }
 }
 
 // A notice that was given out. It is neither `Drop` nor `Copy`: it has to be settled or objected to.

@@ -1,10 +1,9 @@
 -- The text of a statement line: seven decimal numbers with single blanks between them, and a line end.
-use Rattle.std.specs.Prelude.{◌≡◌, ℕ, ◌+◌, ◌<◌, ◌≤◌, List, [], ◌∷◌, ◌++◌, length, drop, ℤ, Some, None, decimal, Option}
+use Rattle.std.specs.Prelude.{◌≡◌, ℕ, ◌<◌, ◌≤◌, List, [], ◌∷◌, ◌++◌, length, drop, ℤ, Some, None, decimal, Option}
 use Rattle.std.specs.List.{flat_map}
 use Rattle.std.specs.Fmt.{signed_decimal}
 use Rattle.rules.specs.declared.assessment.PerRule.{PerRule}
 use Rattle.statement.specs.declared.statement.Statement.{Statement}
-use Rattle.text.specs.Puts.{Puts}
 
 -- a number and a blank
 abbrev pub field : ℕ → List ℕ
@@ -26,8 +25,3 @@ statement_text s = text_of s.month s.amount s.penalties s.charged s.net
 abbrev pub Printed : List ℕ → List ℕ → Option ℕ → List ℕ → Type 0
 Printed text old (Some n) new = (128 ≤ length old) × (n ≤ 128) × (n ≡ length text) × (new ≡ text ++ drop n old)
 Printed text old None new = (length old < 128) × (new ≡ old)
-
--- the bytes were put at a place and end at another, or the buffer has not the room
-abbrev pub Begun : List ℕ → ℕ → List ℕ → Option ℕ → List ℕ → Type 0
-Begun old from bytes (Some to) new = (from + length bytes ≤ length old) × Puts old from bytes to new
-Begun old from bytes None new = length old < from + length bytes

@@ -5,4 +5,4 @@ mod print;
 mod statement;
 
 pub use print::print_statement;
-pub use statement::Statement;
+pub use statement::{LINE_BYTES, Statement};

@@ -3,6 +3,9 @@ ghost use Rattle.std.specs.Prelude.{◌^◌, ◌<◌, ◌≤◌, pos, neg_ℤ, �
 
 use rules::assessment::PerRule;
 
+// A line has at most so many bytes.
+pub const LINE_BYTES: usize = 128;
+
 // The month, 0 for the totals, and its yen. The ghost facts bound the bytes of a line.
 #[derive(Clone, Copy)]
 pub struct Statement {

@@ -1,21 +1,13 @@
-use Rattle.std.proofs.Common.{◌≡◌, ◌-◌, take, sym, ap, subst, arith, rules}
-use Rattle.std.specs.List.{AllByRecursion}
+use Rattle.std.proofs.Common.{◌≤◌, length, take, arith}
 use Rattle.std.proofs.lemmas.List.{length-take}
-use Rattle.book.specs.Limits.{Modest}
+use Rattle.book.proofs.Adding.{few}
 use Rattle.book.proofs.Has.{year, modest_first}
 use Rattle.book.proofs.book.Book.first_lines.Goals as goal
 
-pub slice_bounds-result-end : goal.slice_bounds-result-end
-slice_bounds-result-end c = search (rules, year c.args.self.now.led)
-
-pub returns : goal.returns
-returns c =
+pub invariant_of-result : goal.invariant_of-result
+invariant_of-result c =
     let led = c.args.self.now.led in
-    let n = c.args.months in
-    let ls = c.args.self.now.table.lines in
-    let whole : n - 0 ≡ n = omega arith in
-    record {
-      value = ap (λ k. take k ls) whole;
-      year = omega (arith, length-take (n - 0) ls, year led);
-      modest = subst (λ k. AllByRecursion Modest (take k ls)) (sym whole) (modest_first led n c.requires);
-    }
+    let ls = take c.args.months c.args.self.now.table.lines in
+    let twelve : length ls ≤ 12 = omega (arith, length-take c.args.months c.args.self.now.table.lines, year led) in
+    let modest = modest_first led c.args.months c.requires in
+    record { year = twelve; modest = modest; few = few ls twelve modest }

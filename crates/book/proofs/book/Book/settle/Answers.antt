@@ -1,11 +1,8 @@
-use Rattle.std.proofs.Common.{Ok, refl, arith}
+use Rattle.std.proofs.Common.{Ok, refl}
 use Rattle.yen.specs.Yen.{settlement_of}
 use Rattle.book.specs.History.{settling}
-use Rattle.book.proofs.Has.{month_out, goes_on}
+use Rattle.book.proofs.Has.{goes_on}
 use Rattle.book.proofs.book.Book.settle.Goals as goal
-
-pub overflow_add-self : goal.overflow_add-self
-overflow_add-self c = omega (arith, month_out c.args.self.now.led (c.if-not-awaits.ensures.0 refl).is_out)
 
 pub invariant_of-self : goal.invariant_of-self
 invariant_of-self c =
