@@ -1,6 +1,7 @@
 // How a run ends, and what it prints.
-ghost use Rattle.std.specs.Prelude.{IfErr, IsTrue};
-ghost use Rattle.files.specs.Ends.{EndsProcess, is_error};
+ghost use Rattle.std.specs.Prelude.{◌≡◌, IfErr, IsTrue};
+ghost use Rattle.files.specs.Ends.{EndsProcess, TellsOrFails, is_error};
+ghost use Rattle.files.specs.declared.ended.Ended.TheVariants.{Refused};
 
 use settlement::refused::RunRefusal;
 use std::alloc::AllocError;
@@ -11,9 +12,17 @@ use std::process::ExitCode;
 // How a run ends that does not reach its end.
 #[derive(Drop)]
 pub enum Ended {
-    // its refusal is printed
-    Refused,
+    Refused(RunRefusal),
     Failed(anyhow::Error),
+}
+
+// These three by hand, as contracts cite what `?` makes of them; a derive has no contract.
+impl From<RunRefusal> for Ended {
+    ghost from_gives = { λ refusal ended. ended ≡ Refused refusal };
+
+    fn from(refusal: RunRefusal) -> Ended {
+        Ended::Refused(refusal)
+    }
 }
 
 impl From<io::Error> for Ended {
@@ -32,21 +41,21 @@ impl From<AllocError> for Ended {
     }
 }
 
-// Prints the number of the refusal and its month.
-pub fn refused(rt: &HostRuntime, refusal: &RunRefusal) -> Ended {
-    let number = refusal.refusal().number;
-    let month = refusal.month();
-    match println!(rt; "refused {number} {month}") {
-        Ok(()) => Ended::Refused,
-        Err(error) => Ended::Failed(error.into()),
-    }
-}
-
 pub fn write_line(rt: &HostRuntime, line: &[u8]) -> Result<(), Ended>
     ensures { IfErr result (λ ended. IsTrue (is_error ended)) }
 {
     rt.stdout().write_all(line)?;
     Ok(())
+}
+
+// Prints the line of a refusal, with its number and its month.
+pub fn told(rt: &HostRuntime, ended: Result<(), Ended>) -> Result<(), Ended>
+    ensures { TellsOrFails ended result }
+{
+    if let Err(Ended::Refused(refusal)) = &ended {
+        println!(rt; "{refusal}")?;
+    }
+    ended
 }
 
 // What `main` answers: a refusal is told by its line and by the status, anything else on standard error.
@@ -55,7 +64,7 @@ pub fn status(ended: Result<(), Ended>) -> anyhow::Result<ExitCode>
 {
     match ended {
         Ok(()) => Ok(ExitCode::SUCCESS),
-        Err(Ended::Refused) => Ok(ExitCode::FAILURE),
+        Err(Ended::Refused(_)) => Ok(ExitCode::FAILURE),
         Err(Ended::Failed(error)) => Err(error),
     }
 }

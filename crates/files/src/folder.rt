@@ -1,16 +1,16 @@
 // The files of a folder.
-ghost use Rattle.std.specs.Prelude.{IfErr, IfOk, IsTrue};
+ghost use Rattle.std.specs.Prelude.{IfErr, IsTrue, Ok, MatchResult};
 ghost use Rattle.files.specs.Ends.{is_error};
-ghost use Rattle.files.specs.Starts.{StartsFromFronts};
+ghost use Rattle.files.specs.Starts.{StartsFromFronts, EndsStart};
 
 use crate::ended::Ended;
 use crate::source::Source;
-use settlement::refused::RunRefusal;
 use settlement::run::Run;
-use settlement::start::{CONTENTS_BYTES, TERMS_BYTES, start};
+use settlement::start::{TERMS_BYTES, start};
+use year_file::contents::{CONTENTS_BYTES, MOST_BODY_BYTES};
 
 // The bytes of the longest body.
-pub const BODY_BYTES: usize = 60_000;
+pub const BODY_BYTES: usize = MOST_BODY_BYTES as usize;
 
 pub fn open_file(rt: &HostRuntime, folder: &str, name: &str) -> Result<Source, Ended>
     ensures { IfErr result (λ ended. IsTrue (is_error ended)) }
@@ -20,17 +20,12 @@ pub fn open_file(rt: &HostRuntime, folder: &str, name: &str) -> Result<Source, E
 }
 
 // Starts a run from the terms of a folder and the contents at the start of a year's file.
-pub fn start_run(
-    rt: &HostRuntime,
-    folder: &str,
-    year: &mut Source,
-) -> Result<Result<Run, RunRefusal>, Ended>
-    ensures started { IfOk result (StartsFromFronts TERMS_BYTES CONTENTS_BYTES) }
-    ensures error { IfErr result (λ ended. IsTrue (is_error ended)) }
+pub fn start_run(rt: &HostRuntime, folder: &str, year: &mut Source) -> Result<Run, Ended>
+    ensures { MatchResult result (λ run. StartsFromFronts TERMS_BYTES CONTENTS_BYTES (Ok run)) (EndsStart TERMS_BYTES CONTENTS_BYTES) }
 {
     let mut terms = [0u8; TERMS_BYTES];
     let terms_bytes = open_file(rt, folder, "terms.txt")?.fill(&mut terms)?;
     let mut contents = [0u8; CONTENTS_BYTES];
     let contents_bytes = year.fill(&mut contents)?;
-    Ok(start(&terms[0..terms_bytes], &contents[0..contents_bytes]))
+    Ok(start(&terms[..terms_bytes], &contents[..contents_bytes])?)
 }

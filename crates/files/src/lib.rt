@@ -4,3 +4,4 @@
 pub mod ended;
 pub mod folder;
 pub mod source;
+pub mod year;

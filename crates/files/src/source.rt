@@ -15,17 +15,13 @@ impl Source {
     pub fn open(rt: &HostRuntime, path: &str) -> io::Result<Source> {
         match File::open(rt, path) {
             Ok(file) => Ok(Source { file: Some(file) }),
-            Err(error) => {
-                if error.kind() == ErrorKind::NotFound {
-                    Ok(Source { file: None })
-                } else {
-                    Err(error)
-                }
-            }
+            Err(error) if error.kind() == ErrorKind::NotFound => Ok(Source { file: None }),
+            Err(error) => Err(error),
         }
     }
 
-    // Reads until the buffer is full or the file ends, and answers how many bytes came.
+    // Reads until the buffer is full or the file ends, and answers how many bytes came, as `read` does. The bytes as the
+    // answer would borrow the buffer, and then no clause could say that a missing file leaves it as it was.
     pub fn fill(&mut self, buf: &mut [u8]) -> io::Result<usize>
         ensures within { IfOk result (λ n. n ≤ length buf.new) }
         ensures missing { IsTrue (is_missing self.old) → (result ≡ Ok 0) × (buf.new ≡ buf.old) }
@@ -43,7 +39,7 @@ impl Source {
         ensures missing { IsTrue (is_missing self.old) → (result ≡ Ok 0) × (buf.new ≡ buf.old) }
     {
         let end = bytes.min(buf.len());
-        self.fill(&mut buf[0..end])
+        self.fill(&mut buf[..end])
     }
 
     pub fn is_at_end(&mut self) -> io::Result<bool>
@@ -54,6 +50,7 @@ impl Source {
     }
 }
 
+// Kept as a loop: the library's `read_exact` does not say how many bytes came before the end.
 fn fill_from(file: &mut File, buf: &mut [u8]) -> io::Result<usize>
     ensures { IfOk result (λ n. n ≤ length buf.new) }
 {

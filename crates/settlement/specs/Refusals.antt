@@ -1,5 +1,5 @@
 -- The number, the place and the month of a run's refusal.
-use Rattle.std.specs.Prelude.{ℕ}
+use Rattle.std.specs.Prelude.{ℕ, List, ◌++◌, codes, decimal}
 use Rattle.refusal.specs.declared.Refusal.{Refusal}
 use Rattle.book.specs.Refusals.{close_refusal}
 use Rattle.year_file.specs.Refusals.{body_refusal, contents_refusal}
@@ -25,3 +25,7 @@ run_month (Contents e) = 0
 run_month (Body month e) = month
 run_month BytesAfter = 12
 run_month (Close month e) = month
+
+-- a refusal as a program prints it: its number and its month
+abbrev pub run_text : RunRefusal → List ℕ
+run_text e = codes "refused " ++ decimal (run_refusal e).number ++ codes " " ++ decimal (run_month e)

@@ -1,7 +1,7 @@
 -- What starts a run, and what settles a month of it.
-use Rattle.std.specs.Prelude.{◌≡◌, ℕ, Bool, true, List, take, Some, None, Ok, Err, Option, Result, MatchResult}
+use Rattle.std.specs.Prelude.{◌≡◌, ℕ, Bool, true, List, take, Some, None, Ok, Err, Option, Result}
 use Rattle.book.specs.declared.table.Table.{Table}
-use Rattle.book.specs.Calls.{Opened, open_month, Prints}
+use Rattle.book.specs.Calls.{Opened, Printable, open_month, text_at}
 use Rattle.book.specs.History.{ClosedAndSettled}
 use Rattle.calendar.specs.Calendar.{slots_in}
 use Rattle.records.specs.declared.slot.Slot.{Slot}
@@ -65,14 +65,12 @@ MonthSettled a text after (Err (run.Body month e)) b = (month ≡ (open_month a)
 MonthSettled a text after (Err run.BytesAfter) b = (slots : List Slot) × (BodySays (open_month a) text (Ok slots) × Trails a after × (b ≡ a))
 MonthSettled a text after (Err (run.Close month e)) b = (slots : List Slot) × ((month ≡ (open_month a).month) × BodySays (open_month a) text (Ok slots) × (Trails a after → ⊥) × ClosedAndSettled a slots (Err e) b)
 
--- the month is settled, and the buffer begins with its statement line
-pub record SettledAndPrinted (a : Table) (text : List ℕ) (after : Bool) (old : List ℕ) (n : ℕ) (b : Table) (new : List ℕ) : Type 0 where
+-- the month is settled, and this is its statement line
+pub record SettledAndShown (a : Table) (text : List ℕ) (after : Bool) (line : List ℕ) (b : Table) : Type 0 where
   pub settlement : Settlement
   pub settled : MonthSettled a text after (Ok settlement) b
-  pub printed : Prints b (open_month a).month old n new
-
-abbrev pub LineSettled : Table → List ℕ → Bool → List ℕ → Result ℕ RunRefusal → Table → List ℕ → Type 0
-LineSettled a text after old r b new = MatchResult r (λ n. SettledAndPrinted a text after old n b new) (λ e. MonthSettled a text after (Err e) b × (new ≡ old))
+  pub printable : Printable b (open_month a).month
+  pub shown : line ≡ text_at b (open_month a).month
 
 -- both texts are bodies of the month, and each slot of the better one is no worse than the one in its place
 pub record BetterBody (month : OpenMonth) (better worse : List ℕ) : Type 0 where

@@ -1,31 +1,34 @@
 // The number, the place and the month of a run's refusal.
-ghost use Rattle.std.specs.Prelude.{◌≡◌};
-ghost use Rattle.settlement.specs.Refusals.{run_refusal, run_month};
+ghost use Rattle.std.specs.Prelude.{◌≡◌, Some};
+ghost use Rattle.settlement.specs.Refusals.{run_refusal, run_month, run_text};
 ghost use Rattle.settlement.specs.declared.refused.RunRefusal.TheVariants.{Terms, Price, Contents};
 
 use crate::refused::RunRefusal;
 use refusal::Refusal;
+use std::fmt;
 use terms::refusals::PriceRefusal;
 use terms_file::refusals::TermsRefusal;
 use year_file::contents::ContentsRefusal;
 
-impl RunRefusal {
-    pub fn refusal(&self) -> Refusal
-        ensures { result ≡ run_refusal self.now }
-    {
-        match self {
-            RunRefusal::Terms(refusal) => refusal.refusal(),
-            RunRefusal::Price(refusal) => refusal.refusal(),
-            RunRefusal::Contents(refusal) => refusal.refusal(),
-            RunRefusal::Body(_, refusal) => refusal.refusal(),
+impl From<RunRefusal> for Refusal {
+    ghost from_gives = { λ e r. r ≡ run_refusal e };
+
+    fn from(refusal: RunRefusal) -> Refusal {
+        match refusal {
+            RunRefusal::Terms(refusal) => refusal.into(),
+            RunRefusal::Price(refusal) => refusal.into(),
+            RunRefusal::Contents(refusal) => refusal.into(),
+            RunRefusal::Body(_, refusal) => refusal.into(),
             RunRefusal::BytesAfter => Refusal {
                 number: 11,
                 place: 0,
             },
-            RunRefusal::Close(_, refusal) => refusal.refusal(),
+            RunRefusal::Close(_, refusal) => refusal.into(),
         }
     }
+}
 
+impl RunRefusal {
     // The month that was to be settled, or 0 before the first.
     pub fn month(&self) -> u8
         ensures { result ≡ run_month self.now }
@@ -38,6 +41,18 @@ impl RunRefusal {
     }
 }
 
+// The line that a program prints of it.
+impl fmt::Display for RunRefusal {
+    ghost output = { λ e. Some (run_text e) };
+
+    fn fmt<W: fmt::Write>(&self, f: &mut fmt::Formatter<W>) -> fmt::Result {
+        let number = Refusal::from(*self).number;
+        let month = self.month();
+        write!(f, "refused {number} {month}")
+    }
+}
+
+// These three by hand, as contracts cite what `?` makes of them; a derive has no contract.
 impl From<TermsRefusal> for RunRefusal {
     ghost from_gives = { λ e r. r ≡ Terms e };
 

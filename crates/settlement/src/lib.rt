@@ -2,6 +2,7 @@
 #![tactic(auto)]
 
 pub mod better;
+pub mod body;
 pub mod fault;
 pub mod lines;
 pub mod month;

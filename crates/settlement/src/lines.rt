@@ -1,37 +1,38 @@
 // Statement lines of a run.
-ghost use Rattle.book.specs.Calls.{Prints};
-ghost use Rattle.settlement.specs.Runs.{LineSettled};
+ghost use Rattle.std.specs.Prelude.{◌≡◌, Err, MatchResult};
+ghost use Rattle.book.specs.Calls.{text_at};
+ghost use Rattle.settlement.specs.Runs.{MonthSettled, SettledAndShown};
 
+use crate::body::MonthBody;
 use crate::month::settle_month;
 use crate::refused::RunRefusal;
+use arrayvec::ArrayString;
 use book::book::Book;
+use statement::LINE_BYTES;
 
-// The bytes that hold any statement line.
-pub const LINE_BYTES: usize = 128;
-
-// Settles the book's first unsettled month from its body and writes its statement line; answers the line's length.
+// Settles the book's first unsettled month from its body; answers its statement line.
 pub fn settle_line(
     book: &mut Book,
-    body: &[u8],
-    bytes_after: bool,
-    out: &mut [u8; LINE_BYTES],
-) -> Result<usize, RunRefusal>
-    ensures { LineSettled book.old.table body.now bytes_after out.old result book.new.table out.new }
+    body: MonthBody<'_>,
+) -> Result<ArrayString<LINE_BYTES>, RunRefusal>
+    ensures { MatchResult result
+        (λ line. SettledAndShown book.old.table body.entry.text.now body.entry.bytes_after line.bytes book.new.table)
+        (λ refusal. MonthSettled book.old.table body.entry.text.now body.entry.bytes_after (Err refusal) book.new.table) }
 {
     let month = book.open_month().month;
-    let _settlement = settle_month(book, body, bytes_after)?;
-    match book.print_line(month, out) {
-        Ok(length) => Ok(length),
-        Err(_refusal) => unreachable(),
+    let _settlement = settle_month(book, body)?;
+    match book.statement(month) {
+        Some(statement) => Ok(statement.line()),
+        None => unreachable!(),
     }
 }
 
-// Writes the statement line of the settled months together; answers its length.
-pub fn totals_line(book: &Book, out: &mut [u8; LINE_BYTES]) -> usize
-    ensures { Prints book.now.table 0 out.old result out.new }
+// The statement line of the settled months together.
+pub fn totals_line(book: &Book) -> ArrayString<LINE_BYTES>
+    ensures { result.bytes ≡ text_at book.now.table 0 }
 {
-    match book.print_line(0, out) {
-        Ok(length) => length,
-        Err(_refusal) => unreachable(),
+    match book.statement(0) {
+        Some(statement) => statement.line(),
+        None => unreachable!(),
     }
 }

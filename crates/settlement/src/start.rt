@@ -6,13 +6,11 @@ use crate::run::Run;
 use book::book::Book;
 use terms::pricing::price;
 use terms_file::reading::read_terms;
-use year_file::contents::read_contents;
+use year_file::contents::{CONTENTS_BYTES, read_contents};
 
-// So many bytes of the terms are enough to start a run by: 22 lines in form have at most 310.
+// So many bytes of the terms are enough to start a run by: 22 lines in form have at most 310. Of the year those of the
+// contents are.
 pub const TERMS_BYTES: usize = 1_024;
-
-// So many bytes of the year are: those of the contents.
-pub const CONTENTS_BYTES: usize = 252;
 
 // Reads the terms, prices them, reads the contents at the start of the year's text, and opens a book.
 pub fn start(terms: &[u8], year: &[u8]) -> Result<Run, RunRefusal>

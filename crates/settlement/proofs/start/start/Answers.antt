@@ -1,7 +1,8 @@
 use Rattle.std.proofs.Common.{rules, arith}
 use Rattle.std.proofs.lemmas.Result.{err_from_is_err_and}
 use Rattle.settlement.specs.Runs.{Priced, FirstBytesDecide}
-use Rattle.settlement.specs.declared.start.TheConstants.{TERMS_BYTES, CONTENTS_BYTES}
+use Rattle.settlement.specs.declared.start.TheConstants.{TERMS_BYTES}
+use Rattle.year_file.specs.declared.contents.TheConstants.{CONTENTS_BYTES}
 use Rattle.settlement.proofs.Starts.{first_bytes_decide}
 use Rattle.settlement.proofs.start.start.Goals as goal
 use Rattle.settlement.proofs.start.start.Goals.{In_ok-priced}
