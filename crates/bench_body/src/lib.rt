@@ -3,19 +3,19 @@
 
 ghost use Rattle.bench_body.specs.Answer.{Answered};
 
+use calendar::MOST_SLOTS;
 use records::slot::Slot;
+use refusal::Refusal;
 use year_file::body::read_body;
-
-const MAY_SLOTS: usize = 1488;
 
 // The number of the refusal of a body of May 2025, or 0 where it is read.
 #[unsafe(no_mangle)]
 pub extern "C" fn read_may(text: &[u8]) -> u8
     ensures { Answered text.now result }
 {
-    let mut slots = [Slot::EMPTY; MAY_SLOTS];
+    let mut slots = [Slot::EMPTY; MOST_SLOTS];
     match read_body(2025, 2, text, &mut slots) {
         Ok(()) => 0,
-        Err(refusal) => refusal.refusal().number,
+        Err(refused) => Refusal::from(refused).number,
     }
 }

@@ -1,6 +1,7 @@
 // A leap year of 17,568 longest lines, settled from its texts.
-use anyhow::anyhow;
-use settlement::lines::{LINE_BYTES, settle_line, totals_line};
+use anyhow::bail;
+use settlement::body::MonthBody;
+use settlement::lines::{settle_line, totals_line};
 use settlement::start::start;
 use std::io::Write;
 
@@ -15,29 +16,26 @@ pub(crate) fn show(rt: &HostRuntime) -> anyhow::Result<()> {
     let heap = rt.alloc();
     let mut contents = String::new(heap);
     let mut at = 252usize;
-    let mut month = 0u8;
-    for days in DAYS {
-        month = month.saturating_add(1);
+    for (month, days) in (1..13u8).zip(DAYS) {
         let length = days.saturating_mul(48 * 37);
         contents.push_str(format!(in heap; "{month:02} {at:08} {length:08}\n")?.as_str())?;
         at = at.saturating_add(length);
     }
-    let mut run = match start(TERMS, contents.as_bytes()) {
-        Ok(run) => run,
-        Err(_) => return Err(anyhow!("the year was not started")),
+    let Ok(mut run) = start(TERMS, contents.as_bytes()) else {
+        bail!("the year was not started");
     };
-    let mut line = [0u8; LINE_BYTES];
     for days in DAYS {
-        let mut body = String::new(heap);
-        for _ in 0..days.saturating_mul(48) {
-            body.push_str(LONGEST)?;
-        }
-        match settle_line(&mut run.book, body.as_bytes(), false, &mut line) {
-            Ok(n) => rt.stdout().write_all(&line[0..n])?,
-            Err(_) => return Err(anyhow!("a month was not settled")),
-        }
+        let text = LONGEST.repeat(heap, days.saturating_mul(48))?;
+        let body = MonthBody {
+            text: text.as_bytes(),
+            bytes_after: false,
+        };
+        let Ok(line) = settle_line(&mut run.book, body) else {
+            bail!("a month was not settled");
+        };
+        rt.stdout().write_all(line.as_str().as_bytes())?;
     }
-    let n = totals_line(&run.book, &mut line);
-    rt.stdout().write_all(&line[0..n])?;
+    rt.stdout()
+        .write_all(totals_line(&run.book).as_str().as_bytes())?;
     Ok(())
 }

@@ -1,4 +1,5 @@
-// Acts with notices. None is left when an act ends, and what it answers can be told in peace.
+// Acts with notices. None is left when an act ends, and what it answers can be told in peace. The slots go beside the book
+// and not into a struct with it: they change from call to call.
 use book::book::Book;
 use book::refused::{CloseRefusal, ObjectRefusal, SettleRefusal};
 use book::table::NoticeNumbers;
@@ -6,12 +7,11 @@ use records::slot::Slot;
 use rules::rule::Rule;
 use yen::Settlement;
 
-// How an objection ended.
+// Why an objection was refused, and what its notice came to, which was settled after all.
 #[derive(Clone, Copy)]
-pub(crate) enum Objection {
-    Accepted,
-    // refused, and the notice settled after all
-    Refused(ObjectRefusal, Settlement),
+pub(crate) struct SettledAfterAll {
+    pub refusal: ObjectRefusal,
+    pub settlement: Settlement,
 }
 
 // Closes a month by one rule in all three places, and objects to the notice.
@@ -19,16 +19,20 @@ pub(crate) fn close_and_object<R: Rule>(
     book: &mut Book,
     slots: &[Slot],
     rule: &R,
-) -> Result<(NoticeNumbers, Objection), CloseRefusal> {
+) -> Result<(NoticeNumbers, Result<(), SettledAfterAll>), CloseRefusal> {
     let notice = book.close_by(slots, rule, rule, rule)?;
     let numbers = notice.numbers();
-    match book.object(notice) {
-        Ok(()) => Ok((numbers, Objection::Accepted)),
+    let objected = match book.object(notice) {
+        Ok(()) => Ok(()),
         Err((notice, refusal)) => match book.settle(notice) {
-            Ok(settlement) => Ok((numbers, Objection::Refused(refusal, settlement))),
+            Ok(settlement) => Err(SettledAfterAll {
+                refusal,
+                settlement,
+            }),
             Err((_notice, _refusal)) => unreachable(),
         },
-    }
+    };
+    Ok((numbers, objected))
 }
 
 // Closes a month of the second book and offers its notice to the first one, which has another plant and hands it back.

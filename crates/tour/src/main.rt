@@ -6,21 +6,17 @@ mod reading;
 mod rule;
 mod telling;
 
-use acts::{Objection, close_and_object, close_twice, offer_foreign};
+use acts::{close_and_object, close_twice, offer_foreign};
 use book::book::Book;
-use book::refused::CloseRefusal;
-use book::table::NoticeNumbers;
+use calendar::MOST_SLOTS;
 use records::slot::{Outage, Slot};
 use rule::LowReserveRule;
 use std::io;
 use std::io::Write;
-use telling::{refused, settlement};
+use telling::{refused, told};
 use terms::contract::PricedTerms;
 use terms::pricing::price;
 use terms::terms::{Choices, Index, Rates, Terms};
-
-// The slots of the longest month.
-const MOST_SLOTS: usize = 1488;
 
 const KEPT: Slot = Slot {
     supply: 100,
@@ -74,13 +70,14 @@ fn priced(rt: &HostRuntime, act: &str, terms: &Terms) -> io::Result<Option<Price
     match price(terms) {
         Ok(terms) => {
             let contract = terms.contract();
-            let price = contract.price;
-            let amount = contract.amount;
-            println!(rt; "{act}: {price} yen for a kW, {amount} yen for the year")?;
+            println!(rt;
+                "{act}: {} yen for a kW, {} yen for the year",
+                contract.price, contract.amount
+            )?;
             Ok(Some(terms))
         }
         Err(refusal) => {
-            refused(rt, act, refusal.refusal())?;
+            refused(rt, act, refusal)?;
             Ok(None)
         }
     }
@@ -140,30 +137,20 @@ fn show_prices(rt: &HostRuntime) -> io::Result<Option<PricedTerms>> {
     priced(rt, "price", &TERMS)
 }
 
-fn told_notice(rt: &HostRuntime, act: &str, notice: NoticeNumbers) -> io::Result<()> {
-    let plant = notice.plant;
-    let year = notice.year;
-    let month = notice.month;
-    let issue = notice.issue;
-    let net = notice.net;
-    println!(rt;
-        "{act}: notice of plant {plant}, year {year}, month {month}, issue {issue}, net {net} yen"
-    )
-}
-
 // Closes by the tour's own rule and objects.
 fn show_objection(rt: &HostRuntime, book: &mut Book, slots: &[Slot]) -> io::Result<()> {
     match close_and_object(book, slots, &LowReserveRule) {
-        Ok((notice, Objection::Accepted)) => {
-            told_notice(rt, "close by the rule 7", notice)?;
-            println!(rt; "object: accepted")
+        Ok((notice, objected)) => {
+            println!(rt; "close by the rule 7: {notice}")?;
+            match objected {
+                Ok(()) => println!(rt; "object: accepted"),
+                Err(after_all) => {
+                    refused(rt, "object", after_all.refusal)?;
+                    println!(rt; "settle: {}", after_all.settlement)
+                }
+            }
         }
-        Ok((notice, Objection::Refused(refusal, answer))) => {
-            told_notice(rt, "close by the rule 7", notice)?;
-            refused(rt, "object", refusal.refusal())?;
-            settlement(rt, "settle", answer)
-        }
-        Err(refusal) => refused(rt, "close", refusal.refusal()),
+        Err(refusal) => refused(rt, "close", refusal),
     }
 }
 
@@ -175,24 +162,13 @@ fn exhaust_issues(rt: &HostRuntime, book: &mut Book, slots: &[Slot]) -> io::Resu
     show_objection(rt, book, slots)
 }
 
-fn show_settlement(
-    rt: &HostRuntime,
-    act: &str,
-    answer: Result<yen::Settlement, CloseRefusal>,
-) -> io::Result<()> {
-    match answer {
-        Ok(answer) => settlement(rt, act, answer),
-        Err(refusal) => refused(rt, act, refusal.refusal()),
-    }
-}
-
 fn show_second_close(rt: &HostRuntime, book: &mut Book, slots: &[Slot]) -> io::Result<()> {
     match close_twice(book, slots) {
         Ok((refusal, answer)) => {
-            refused(rt, "close April once more", refusal.refusal())?;
-            settlement(rt, "settle the second issue", answer)
+            refused(rt, "close April once more", refusal)?;
+            println!(rt; "settle the second issue: {answer}")
         }
-        Err(refusal) => refused(rt, "close April again", refusal.refusal()),
+        Err(refusal) => refused(rt, "close April again", refusal),
     }
 }
 
@@ -204,9 +180,9 @@ fn show_foreign(
 ) -> io::Result<()> {
     match offer_foreign(book, other, slots) {
         Some((notice, refusal, answer)) => {
-            told_notice(rt, "close the other book", notice)?;
-            refused(rt, "settle its notice in the first book", refusal.refusal())?;
-            settlement(rt, "settle it in its own", answer)
+            println!(rt; "close the other book: {notice}")?;
+            refused(rt, "settle its notice in the first book", refusal)?;
+            println!(rt; "settle it in its own: {answer}")
         }
         None => println!(rt; "no other book"),
     }
@@ -215,28 +191,24 @@ fn show_foreign(
 // What cannot be read or printed, and the totals.
 fn show_lines(rt: &HostRuntime, book: &Book) -> io::Result<()> {
     match book.read_line(2) {
-        Ok(line) => {
-            let rule = line.rules.dispatch;
-            let units = line.units.dispatch;
-            let charged = line.charged;
-            println!(rt; "read line 2: {units} units by the rule {rule}, {charged} yen charged")?;
-        }
-        Err(refusal) => refused(rt, "read line 2", refusal.refusal())?,
+        Ok(line) => println!(rt;
+            "read line 2: {} units by the rule {}, {} yen charged",
+            line.units.dispatch, line.rules.dispatch, line.charged
+        )?,
+        Err(refusal) => refused(rt, "read line 2", refusal)?,
     }
-    match book.read_line(0) {
-        Ok(_) => println!(rt; "read line 0: a line")?,
-        Err(refusal) => refused(rt, "read line 0", refusal.refusal())?,
-    }
+    told(rt, "read line 0", book.read_line(0).map(|_| "a line"))?;
     let mut short = [0u8; 127];
-    match book.print_line(0, &mut short) {
-        Ok(_) => println!(rt; "print line 0: a line")?,
-        Err(refusal) => refused(rt, "print line 0 into 127 bytes", refusal.refusal())?,
-    }
+    told(
+        rt,
+        "print line 0 into 127 bytes",
+        book.print_line(0, &mut short).map(|_| "a line"),
+    )?;
     let totals = book.read_totals();
-    let months = totals.months;
-    let charged = totals.charged;
-    let net = totals.net;
-    println!(rt; "totals: {months} months, {charged} yen charged, net {net} yen")
+    println!(rt;
+        "totals: {} months, {} yen charged, net {} yen",
+        totals.months, totals.charged, totals.net
+    )
 }
 
 // The first months, one call after the other. April has 1,440 slots, and May 1,488.
@@ -249,13 +221,13 @@ fn show_months(
     if slots.len() < MOST_SLOTS {
         return Ok(());
     }
-    show_settlement(
+    told(
         rt,
         "close April on May's slots",
         book.close_and_settle(slots),
     )?;
     slots[7].supply = 2_000_001;
-    show_settlement(
+    told(
         rt,
         "close April with too much supply",
         book.close_and_settle(&slots[0..1440]),
@@ -267,7 +239,7 @@ fn show_months(
     for slot in slots.iter_mut() {
         *slot = SHORT;
     }
-    show_settlement(
+    told(
         rt,
         "close May, never delivered, and settle",
         book.close_and_settle(slots),
@@ -282,13 +254,13 @@ fn show_end(rt: &HostRuntime, book: &mut Book, slots: &[Slot]) -> io::Result<()>
     }
     exhaust_issues(rt, book, &slots[0..1440])?;
     for days in [31usize, 31, 30, 31, 30, 31, 31, 28, 31] {
-        let _ = book.close_and_settle(&slots[0..48 * days]);
+        let _ = book.close_and_settle(&slots[..48 * days]);
     }
-    show_settlement(rt, "close a thirteenth month", book.close_and_settle(slots))?;
+    told(rt, "close a thirteenth month", book.close_and_settle(slots))?;
     let mut out = [0u8; 128];
     match book.print_line(0, &mut out) {
-        Ok(n) => rt.stdout().write_all(&out[0..n]),
-        Err(refusal) => refused(rt, "print the totals", refusal.refusal()),
+        Ok(n) => rt.stdout().write_all(&out[..n]),
+        Err(refusal) => refused(rt, "print the totals", refusal),
     }
 }
 

@@ -11,7 +11,7 @@ pub(crate) struct LowReserveRule;
 impl Rule for LowReserveRule {
     const NUMBER: u8 = 7;
 
-    ghost number_of = { 7 };
+    ghost NUMBER = { 7 };
 
     ghost meaning = { λ _ slot. (if slot.low_reserve then 10 else 0) };
 
@@ -20,10 +20,6 @@ impl Rule for LowReserveRule {
     ghost range = { Prim.search rules };
 
     ghost no_worse = { Prim.search rules };
-
-    fn own_number() -> u8 {
-        Self::NUMBER
-    }
 
     fn units(&self, slot: &Slot) -> u32 {
         if slot.low_reserve { 10 } else { 0 }

@@ -1,18 +1,25 @@
 // Answers in words.
 use refusal::Refusal;
+use std::fmt::Display;
 use std::io;
-use yen::Settlement;
 
-pub(crate) fn refused(rt: &HostRuntime, act: &str, refusal: Refusal) -> io::Result<()> {
-    let number = refusal.number;
-    let place = refusal.place;
-    println!(rt; "{act}: refused with {number} at {place}")
+pub(crate) fn refused<E: Into<Refusal> + Drop>(
+    rt: &HostRuntime,
+    act: &str,
+    refusal: E,
+) -> io::Result<()> {
+    let refusal: Refusal = refusal.into();
+    println!(rt; "{act}: refused with {refusal}")
 }
 
-pub(crate) fn settlement(rt: &HostRuntime, act: &str, settlement: Settlement) -> io::Result<()> {
-    match settlement {
-        Settlement::Payment(yen) => println!(rt; "{act}: a payment of {yen} yen"),
-        Settlement::Claim(yen) => println!(rt; "{act}: a claim of {yen} yen"),
-        Settlement::Neither => println!(rt; "{act}: neither payment nor claim"),
+// What an act was answered with, or why it was refused.
+pub(crate) fn told<T: Display + Drop, E: Into<Refusal> + Drop>(
+    rt: &HostRuntime,
+    act: &str,
+    answer: Result<T, E>,
+) -> io::Result<()> {
+    match answer {
+        Ok(answer) => println!(rt; "{act}: {answer}"),
+        Err(refusal) => refused(rt, act, refusal),
     }
 }
