@@ -1,5 +1,5 @@
 // When slots are no worse than others.
-// Kept as functions with definitions: no plainer as a `PartialOrd`, where `<=` would hide what is compared.
+// Functions, and no `PartialOrd`: a `<=` of slots would hide what is compared.
 ghost use Rattle.std.specs.Prelude.{◌↔◌, IsTrue};
 ghost use Rattle.std.specs.List.{AllZip};
 ghost use Rattle.records.specs.Slots.{NoWorse, NoWorseOutage, NoWorseSupply};

@@ -9,8 +9,9 @@ const MOST_POWER: u32 = 2_000_000;
 const MOST_ENERGY: u32 = 1_000_000;
 
 // What the outage plan says of the half hour.
-#[derive(Clone, Copy, Debug, PartialEq, Eq)]
+#[derive(Clone, Copy, Debug, Default, PartialEq, Eq)]
 pub enum Outage {
+    #[default]
     NoOutage,
     PlannedStop,
     UnplannedStop,
@@ -18,8 +19,8 @@ pub enum Outage {
     UnplannedSuppression,
 }
 
-// Supply, plan and offer are in kW, the meter in kWh.
-#[derive(Clone, Copy, Debug, PartialEq, Eq)]
+// Supply, plan and offer are in kW, the meter in kWh. The default, a slot of zeros, makes room for others.
+#[derive(Clone, Copy, Debug, Default, PartialEq, Eq)]
 pub struct Slot {
     // the highest output on offer
     pub supply: u32,
@@ -39,18 +40,6 @@ pub struct Slot {
 }
 
 impl Slot {
-    // A slot of zeros, to make room for others. Kept as a constant: a `Default` would let it pass for a reading.
-    pub const EMPTY: Slot = Slot {
-        supply: 0,
-        plan: 0,
-        offer: 0,
-        meter: 0,
-        outage: Outage::NoOutage,
-        low_reserve: false,
-        dispatched: false,
-        papers: false,
-    };
-
     // Whether each number is at most its limit.
     pub fn is_within(&self) -> bool
         ensures { IsTrue result ↔ Within self.now }

@@ -1,3 +1,4 @@
 pub mod Front
 pub mod Number
 pub mod Files
+pub mod Puts

@@ -11,7 +11,7 @@ pub fn read_number(text: &[u8], most: usize) -> Option<(u64, &[u8])>
     ensures { Reads (NumberFirst (min most 19)) text.now result }
 {
     let limit = most.min(MOST_DIGITS);
-    // Kept as one pass: to count the digits first, by `take_while`, took about a quarter more time.
+    // One pass: to count the digits first, by `take_while`, took about a quarter more time.
     let mut n: u64 = 0;
     let mut rest = text;
     while let Some((digit, more)) = rest.split_first() {
