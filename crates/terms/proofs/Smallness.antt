@@ -5,7 +5,7 @@ use Rattle.std.proofs.lemmas.Nat.{mul-le, mul-lt}
 use Rattle.std.proofs.lemmas.Int.{ints}
 use Rattle.std.proofs.lemmas.Bool.{cond_both}
 use Rattle.terms.specs.declared.fraction.Fraction.{Fraction}
-use Rattle.terms.specs.declared.terms.Index.{Index}
+use Rattle.terms.specs.declared.terms.BidAndSettled.{BidAndSettled}
 use Rattle.terms.specs.declared.terms.Terms.{Terms}
 use Rattle.terms.specs.Bounds.{IndexInRange, PriceInRange}
 use Rattle.terms.specs.Fractions.{over, one, of, times, plus, cut, WholePart}
@@ -49,7 +49,7 @@ small_wider {d} {k} {d'} {k'} {f} hd hk s = let worth = mul-le k f.den k' f.den 
 one_small : Small 1 1 one
 one_small = record { some = omega arith; bottom = omega arith; worth = omega arith }
 
-ratio_small : (i : Index) → IndexInRange i → Small 9999 100 (ratio i)
+ratio_small : (i : BidAndSettled ℕ) → IndexInRange i → Small 9999 100 (ratio i)
 ratio_small i h = record { some = omega (arith, h.bid_from); bottom = h.bid_to; worth = omega (arith, h.bid_from, h.settled_to) }
 
 -- the bounds of an item, of the factor of the rates and of the total
@@ -62,7 +62,7 @@ Rate f = Small 5000 5 f
 abbrev pub Total : Fraction → Type 0
 Total f = Small 4998500149995000 140000000 f
 
-pub item_small : {f : Fraction} (yen choice : ℕ) (i : Index) → f ≡ of yen (factor choice i) → yen ≤ 200000 → IndexInRange i → Item f
+pub item_small : {f : Fraction} (yen choice : ℕ) (i : BidAndSettled ℕ) → f ≡ of yen (factor choice i) → yen ≤ 200000 → IndexInRange i → Item f
 item_small yen choice i e h r =
     rw e (of_small h (cond_both (eqb choice 1) (ratio i) one (λ f. Small 9999 100 f) (λ _. ratio_small i r) (λ _. small_wider (omega arith) (omega arith) one_small)))
 

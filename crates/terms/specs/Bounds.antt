@@ -1,9 +1,9 @@
 -- Bounds that keep the work of pricing within its integers.
-use Rattle.std.specs.Prelude.{◌≤◌, ℤ, pos, negsuc, ◌≤ℤ◌}
-use Rattle.terms.specs.declared.terms.Index.{Index}
+use Rattle.std.specs.Prelude.{ℕ, ◌≤◌, ℤ, pos, negsuc, ◌≤ℤ◌}
+use Rattle.terms.specs.declared.terms.BidAndSettled.{BidAndSettled}
 use Rattle.terms.specs.declared.terms.Terms.{Terms}
 
-pub record IndexInRange (i : Index) : Type 0 where
+pub record IndexInRange (i : BidAndSettled ℕ) : Type 0 where
   pub bid_from : 100 ≤ i.bid
   pub bid_to : i.bid ≤ 9999
   pub settled_to : i.settled ≤ 9999

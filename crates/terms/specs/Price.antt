@@ -5,18 +5,17 @@ use Rattle.terms.specs.declared.figures.Contract.{Contract}
 use Rattle.terms.specs.declared.fraction.Fraction.{Fraction}
 use Rattle.terms.specs.declared.refusals.PriceRefusal.{PriceRefusal}
 use Rattle.terms.specs.declared.refusals.PriceRefusal.TheVariants.{Range, RateBelowZero, PriceTooHigh, ReductionTooHigh}
-use Rattle.terms.specs.declared.terms.Index.{Index}
-use Rattle.terms.specs.declared.terms.Rates.{Rates}
+use Rattle.terms.specs.declared.terms.BidAndSettled.{BidAndSettled}
 use Rattle.terms.specs.declared.terms.Terms.{Terms}
 use Rattle.terms.specs.Fractions.{over, one, of, times, plus, cut, WholePart}
 use Rattle.terms.specs.Ranges.{numbers, first_out}
 
 -- how an index has moved since the bid
-abbrev pub ratio : Index → Fraction
+abbrev pub ratio : BidAndSettled ℕ → Fraction
 ratio i = over i.settled i.bid
 
 -- an index moves an item where its choice is 1
-abbrev pub factor : ℕ → Index → Fraction
+abbrev pub factor : ℕ → BidAndSettled ℕ → Fraction
 factor choice i = cond (choice == 1) (ratio i) one
 
 -- a number of parts of 5,000 is a factor unless it is below 0
@@ -25,7 +24,7 @@ parts (pos n) = Some (over n 5000)
 parts (negsuc n) = None
 
 -- what the rates move the return by
-abbrev pub rates_factor : Rates → Option Fraction
+abbrev pub rates_factor : BidAndSettled ℤ → Option Fraction
 rates_factor r = parts (pos 5000 +ℤ (r.settled -ℤ r.bid))
 
 -- only method 1 asks for the rates, where their choice is 1

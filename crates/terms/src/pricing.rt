@@ -46,8 +46,8 @@ fn item(yen: u32, choice: u32, index: Index) -> Fraction
     yen * factor(choice, index)
 }
 
-// Terms whose price is made of numbers in range. Kept as numbers, the method and the choices too: as types of their own they would be
-// tested as often.
+// Terms whose price is made of numbers in range. The method and the choices stay numbers: tested once or twice each, they
+// would have to be made into enums first.
 #[derive(Clone, Copy)]
 struct InRange<'a> {
     terms: &'a Terms,

@@ -43,8 +43,8 @@ const RANGES: [(i128, i128); COUNT] = [
     (0, 2_000_000_000_000),
 ];
 
-// Whether there is a number at the place `i`, and it is in its range. The assessed capacity has to be a tenth of the contract capacity
-// at least.
+// Whether there is a number at the place `i`, and it is in its range, both looked up at the place: the table has a range
+// for each line, whoever has the numbers. The assessed capacity has to be a tenth of the contract capacity at least.
 pub fn in_range(numbers: &[i128], i: usize) -> bool
     ensures { result ≡ (stands numbers.now i && in_range numbers.now i) }
 {

@@ -24,18 +24,9 @@ impl From<PriceRefusal> for Refusal {
                 number: 2,
                 place: line,
             },
-            PriceRefusal::RateBelowZero => Refusal {
-                number: 3,
-                place: 0,
-            },
-            PriceRefusal::PriceTooHigh => Refusal {
-                number: 4,
-                place: 0,
-            },
-            PriceRefusal::ReductionTooHigh => Refusal {
-                number: 5,
-                place: 0,
-            },
+            PriceRefusal::RateBelowZero => Refusal::without_place(3),
+            PriceRefusal::PriceTooHigh => Refusal::without_place(4),
+            PriceRefusal::ReductionTooHigh => Refusal::without_place(5),
         }
     }
 }

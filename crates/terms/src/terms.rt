@@ -1,19 +1,18 @@
 // The terms of a contract year, as they are agreed.
 
-// The figures of an index: of the year of the bid, and of the settled year. The construction deflator has that of the first year of supply
-// in place of the second.
+// A figure of the year of the bid, and of the settled year. The construction deflator has that of the first year of
+// supply in place of the second.
 #[derive(Clone, Copy, Debug, PartialEq, Eq)]
-pub struct Index {
-    pub bid: u32,
-    pub settled: u32,
+pub struct BidAndSettled<T> {
+    pub bid: T,
+    pub settled: T,
 }
 
+// An index, in tenths.
+pub type Index = BidAndSettled<u32>;
+
 // Lending rates, in thousandths of a percent.
-#[derive(Clone, Copy, Debug, PartialEq, Eq)]
-pub struct Rates {
-    pub bid: i32,
-    pub settled: i32,
-}
+pub type Rates = BidAndSettled<i32>;
 
 // Which items of the price move: 1 where one does, 0 where it does not.
 #[derive(Clone, Copy, Debug, PartialEq, Eq)]
@@ -28,8 +27,8 @@ pub struct Choices {
     pub rates: u32,
 }
 
-// The numbers as they were sent: nothing is known of them until they are priced. Kept as plain numbers, the method and the choices too: a
-// narrower type would ask more of whoever makes terms.
+// The numbers as they were sent: nothing is known of them until they are priced. The method and the choices are numbers
+// too, since a narrower type would ask more of whoever makes terms.
 #[derive(Clone, Copy, Debug, PartialEq, Eq)]
 pub struct Terms {
     pub plant: u32,

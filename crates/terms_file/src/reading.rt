@@ -57,7 +57,7 @@ struct Numbers {
     ghost ranges: { first_out values ≡ None },
 }
 
-// Kept as a method for each type: that a number fits one follows from the ranges of that method's places.
+// A method for each type: that a number fits it follows from the ranges of that method's places, which no type knows.
 impl Numbers {
     // The number at a place that is neither a rate nor the reduction.
     fn whole(&self, i: usize) -> u32

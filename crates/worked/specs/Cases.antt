@@ -6,7 +6,7 @@ use Rattle.rules.specs.declared.assessment.PerRule.{PerRule}
 use Rattle.rules.specs.Standard.{outage_units, market_units, dispatch_units}
 use Rattle.terms.specs.declared.figures.Contract.{Contract}
 use Rattle.terms.specs.declared.refusals.PriceRefusal.{PriceRefusal}
-use Rattle.terms.specs.declared.terms.Index.{Index}
+use Rattle.terms.specs.declared.terms.BidAndSettled.{BidAndSettled}
 use Rattle.terms.specs.declared.terms.Terms.{Terms}
 use Rattle.terms.specs.Price.{contract_of}
 use Rattle.terms.specs.Refusals.{price_refusal}
@@ -21,11 +21,11 @@ Holds c = c.given ≡ c.by_hand
 
 -- ---- prices
 
-abbrev pub index : ℕ → ℕ → Index
+abbrev pub index : ℕ → ℕ → BidAndSettled ℕ
 index bid settled = record { bid = bid; settled = settled }
 
 -- terms of three items, by a method and with all choices taken or none
-abbrev pub terms : (capital upkeep returns method choice : ℕ) → (deflator corporate consumer : Index) → (r0 r1 : ℕ) → Terms
+abbrev pub terms : (capital upkeep returns method choice : ℕ) → (deflator corporate consumer : BidAndSettled ℕ) → (r0 r1 : ℕ) → Terms
 terms capital upkeep returns method choice deflator corporate consumer r0 r1 = record {
   plant = 1;
   year = 2025;

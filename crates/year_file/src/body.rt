@@ -32,16 +32,16 @@ impl From<BodyRefusal> for Refusal {
     ghost from_gives = { λ e r. r ≡ body_refusal e };
 
     fn from(refused: BodyRefusal) -> Refusal {
-        let (number, place) = match refused {
-            BodyRefusal::WrongSlotCount => (8, 0),
-            BodyRefusal::Form(line) => (9, line),
-            BodyRefusal::Limit(line) => (10, line),
-            BodyRefusal::LineCount => (11, 0),
-        };
-        Refusal { number, place }
+        match refused {
+            BodyRefusal::WrongSlotCount => Refusal::without_place(8),
+            BodyRefusal::Form(place) => Refusal { number: 9, place },
+            BodyRefusal::Limit(place) => Refusal { number: 10, place },
+            BodyRefusal::LineCount => Refusal::without_place(11),
+        }
     }
 }
 
+// The outage that a letter stands for. A function of the format: the type knows of no letters.
 fn read_outage(b: u8) -> Option<Outage>
     ensures { ReadsLetter outage_letter b result }
 {
@@ -55,7 +55,7 @@ fn read_outage(b: u8) -> Option<Outage>
     }
 }
 
-// Whether the letter stands there, or a dash in its place.
+// Whether the letter stands there, or a dash in its place. Of the format too: a `bool` knows of no letter.
 fn read_flag(b: u8, letter: char) -> Option<bool>
     ensures { ReadsLetter (flag_letter letter) b result }
 {
@@ -67,7 +67,7 @@ fn read_flag(b: u8, letter: char) -> Option<bool>
 }
 
 // The four letters of a line.
-#[derive(Clone, Copy)]
+#[derive(Clone, Copy, Debug, PartialEq, Eq)]
 struct Letters {
     outage: Outage,
     low_reserve: bool,
@@ -108,15 +108,21 @@ fn read_line(text: &[u8]) -> Option<(Slot, &[u8])>
     let (offer, rest) = read_field(rest)?;
     let (meter, rest) = read_field(rest)?;
     let (letters, rest) = read_word(rest)?;
+    let Letters {
+        outage,
+        low_reserve,
+        dispatched,
+        papers,
+    } = letters;
     let slot = Slot {
         supply,
         plan,
         offer,
         meter,
-        outage: letters.outage,
-        low_reserve: letters.low_reserve,
-        dispatched: letters.dispatched,
-        papers: letters.papers,
+        outage,
+        low_reserve,
+        dispatched,
+        papers,
     };
     Some((slot, rest))
 }
@@ -162,8 +168,8 @@ pub fn read_body(year: u16, month: u8, text: &[u8], slots: &mut [Slot]) -> Resul
     if slots.len() != count {
         return Err(BodyRefusal::WrongSlotCount);
     }
-    // Kept as an array with room for the longest month: there is no heap, and a refusal leaves the slots alone.
-    let mut room = [Slot::EMPTY; MOST_SLOTS];
+    // An array with room for the longest month, cut to this one: there is no heap, and a refusal leaves the slots alone.
+    let mut room = [Slot::default(); MOST_SLOTS];
     let read = &mut room[..count];
     read_lines(text, read)?;
     slots.copy_from_slice(read);

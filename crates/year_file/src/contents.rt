@@ -20,14 +20,14 @@ const MONTH_DIGITS: usize = 2;
 const BYTE_DIGITS: usize = 8;
 
 // Where a body starts in the file, and its bytes.
-#[derive(Clone, Copy, Debug, PartialEq, Eq)]
+#[derive(Clone, Copy, Debug, Default, PartialEq, Eq)]
 pub struct Span {
     pub start: u32,
     pub length: u32,
 }
 
 // The bodies of the twelve months.
-#[derive(Clone, Copy, Debug)]
+#[derive(Clone, Copy, Debug, PartialEq, Eq)]
 pub struct Contents {
     pub spans: [Span; MONTHS],
 }
@@ -45,11 +45,10 @@ impl From<ContentsRefusal> for Refusal {
     ghost from_gives = { λ e r. r ≡ contents_refusal e };
 
     fn from(refused: ContentsRefusal) -> Refusal {
-        let (number, place) = match refused {
-            ContentsRefusal::Form(month) => (6, month),
-            ContentsRefusal::Start(month) => (7, month),
-        };
-        Refusal { number, place }
+        match refused {
+            ContentsRefusal::Form(place) => Refusal { number: 6, place },
+            ContentsRefusal::Start(place) => Refusal { number: 7, place },
+        }
     }
 }
 
@@ -92,10 +91,7 @@ pub fn read_contents(text: &[u8]) -> Result<Contents, ContentsRefusal>
     ensures one_verdict { OneContents }
     ensures twelve_fill { TwelveFill }
 {
-    let mut spans = [Span {
-        start: 0,
-        length: 0,
-    }; MONTHS];
+    let mut spans = [Span::default(); MONTHS];
     let mut rest = text;
     let mut end = CONTENTS_BYTES as u32;
     for (i, span) in spans.iter_mut().enumerate() {
