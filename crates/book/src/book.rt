@@ -51,7 +51,8 @@ impl Book {
         self.table.terms.contract()
     }
 
-    // The first unsettled month, 13 where all are settled, and what it is assessed by.
+    // The first unsettled month, 13 where all are settled, and what it is assessed by. A number, 13 too: no month has it,
+    // so what reads or assesses it refuses it by itself.
     pub fn open_month(&self) -> OpenMonth
         ensures { result ≡ open_month self.now.table }
     {
@@ -211,19 +212,27 @@ impl Book {
         self.settled_lines().totals()
     }
 
-    // The statement of a month that is settled or under notice, or of the totals as month 0.
+    // The statement of the totals, which is that of month 0. Field by field here and below: one function of both would take
+    // five figures and ask for all their bounds.
+    pub fn totals_statement(&self) -> Statement
+        ensures { statement_text result ≡ text_at self.now.table 0 }
+    {
+        let totals = self.settled_lines().totals();
+        Statement {
+            month: 0,
+            amount: totals.amount,
+            penalties: totals.penalties,
+            charged: totals.charged,
+            net: totals.net,
+        }
+    }
+
+    // The statement of a month that is settled or under notice, or of the totals as month 0, as print line counts.
     pub fn statement(&self, month: u8) -> Option<Statement>
         ensures { MatchOption result (Printable self.now.table month → ⊥) (λ s. Printable self.now.table month × (statement_text s ≡ text_at self.now.table month)) }
     {
         if month == 0 {
-            let totals = self.settled_lines().totals();
-            return Some(Statement {
-                month,
-                amount: totals.amount,
-                penalties: totals.penalties,
-                charged: totals.charged,
-                net: totals.net,
-            });
+            return Some(self.totals_statement());
         }
         let line = self.read_line(month).ok()?;
         Some(Statement {
@@ -236,7 +245,7 @@ impl Book {
     }
 
     // Writes the statement line of a month, or of the totals as month 0, at the start of the buffer, and answers its
-    // length.
+    // length. The buffer is the caller's: its rest stays as it was, and one that is too short is refused.
     pub fn print_line(&self, month: u8, out: &mut [u8]) -> Result<usize, PrintLineRefusal>
         ensures { Step self.now.table (printing_line month out.old result out.new) self.now.table }
     {

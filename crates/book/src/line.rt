@@ -17,7 +17,7 @@ pub struct Line {
 }
 
 // The number of the settled months, and their sums in yen.
-#[derive(Clone, Copy, Debug, Default, PartialEq, Eq)]
+#[derive(Clone, Copy, Debug, PartialEq, Eq)]
 pub struct Totals {
     pub months: u8,
     pub amount: u64,

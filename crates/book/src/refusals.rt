@@ -8,20 +8,14 @@ use crate::refused::{
 use refusal::Refusal;
 use rules::assessment::SlotsRefusal;
 
-const fn without_place(number: u8) -> Refusal
-    ensures { result ≡ record { number = number; place = 0 } }
-{
-    Refusal { number, place: 0 }
-}
-
 impl From<CloseRefusal> for Refusal {
     ghost from_gives = { λ e r. r ≡ close_refusal e };
 
     fn from(refusal: CloseRefusal) -> Refusal {
         match refusal {
-            CloseRefusal::NoticeOut => without_place(12),
-            CloseRefusal::YearSettled => without_place(13),
-            CloseRefusal::WrongSlotCount => without_place(14),
+            CloseRefusal::NoticeOut => Refusal::without_place(12),
+            CloseRefusal::YearSettled => Refusal::without_place(13),
+            CloseRefusal::WrongSlotCount => Refusal::without_place(14),
             CloseRefusal::UnfitSlot(place) => Refusal { number: 15, place },
         }
     }
@@ -44,7 +38,7 @@ impl From<SettleRefusal> for Refusal {
 
     fn from(refusal: SettleRefusal) -> Refusal {
         match refusal {
-            SettleRefusal::OtherNotice => without_place(16),
+            SettleRefusal::OtherNotice => Refusal::without_place(16),
         }
     }
 }
@@ -54,8 +48,8 @@ impl From<ObjectRefusal> for Refusal {
 
     fn from(refusal: ObjectRefusal) -> Refusal {
         match refusal {
-            ObjectRefusal::OtherNotice => without_place(16),
-            ObjectRefusal::LastIssue => without_place(17),
+            ObjectRefusal::OtherNotice => Refusal::without_place(16),
+            ObjectRefusal::LastIssue => Refusal::without_place(17),
         }
     }
 }
@@ -65,7 +59,7 @@ impl From<ReadLineRefusal> for Refusal {
 
     fn from(refusal: ReadLineRefusal) -> Refusal {
         match refusal {
-            ReadLineRefusal::NoLine => without_place(18),
+            ReadLineRefusal::NoLine => Refusal::without_place(18),
         }
     }
 }
@@ -75,8 +69,8 @@ impl From<PrintLineRefusal> for Refusal {
 
     fn from(refusal: PrintLineRefusal) -> Refusal {
         match refusal {
-            PrintLineRefusal::NoLine => without_place(18),
-            PrintLineRefusal::ShortBuffer => without_place(19),
+            PrintLineRefusal::NoLine => Refusal::without_place(18),
+            PrintLineRefusal::ShortBuffer => Refusal::without_place(19),
         }
     }
 }

@@ -45,7 +45,7 @@ impl SettledLines<'_> {
     fn net(&self) -> i64
         ensures { result ≡ net_in self.now.lines.now }
     {
-        // Kept as a loop: in a chain, that each signed addition fits could not be proved.
+        // A loop: in a chain, that each signed addition fits could not be proved.
         let mut net = 0;
         for line in self.lines {
             net += line.net;

@@ -7,11 +7,11 @@ use crate::line::Line;
 use std::fmt;
 use terms::contract::PricedTerms;
 
-#[derive(Clone, Copy)]
+#[derive(Clone, Copy, Debug, PartialEq, Eq)]
 pub struct Table {
     pub(crate) terms: PricedTerms,
-    // One line for each month, empty unless the month is settled or its notice is out. Kept as an array with a count
-    // and a flag: a library has no heap, and all twelve lines are there from the start.
+    // One line for each month, empty unless the month is settled or its notice is out. An array with a count and a flag:
+    // all twelve lines are there from the start, without a heap, and a line is read at its month whichever it is.
     pub(crate) lines: [Line; 12],
     // how many months are settled
     pub(crate) settled: u8,

@@ -43,7 +43,7 @@ pub struct Assessment {
 }
 
 impl Assessment {
-    // The units as plain numbers.
+    // The units as plain numbers, field by field: a `map` of `PerRule` would have to ask that its closure can be called.
     pub fn counts(&self) -> PerRule<u64>
         ensures { result ≡ self.now.units }
     {

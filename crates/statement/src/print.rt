@@ -31,8 +31,8 @@ impl Statement {
     }
 }
 
-// Writes the line at the start of the buffer and answers its length. `None` for a buffer under 128 bytes, which is
-// then left alone; 128 bytes are enough for any line.
+// Writes the line at the start of a lent buffer and answers its length, as the call of a book has it. `None` for a buffer
+// under 128 bytes, which is then left alone; 128 bytes are enough for any line.
 pub fn print_statement(statement: &Statement, out: &mut [u8]) -> Option<usize>
     ensures { Printed (statement_text statement.now) out.old result out.new }
 {

@@ -6,8 +6,8 @@ use rules::assessment::PerRule;
 // A line has at most so many bytes.
 pub const LINE_BYTES: usize = 128;
 
-// The month, 0 for the totals, and its yen. The ghost facts bound the bytes of a line.
-#[derive(Clone, Copy)]
+// The month, 0 for the totals as the printed line has it, and its yen. The ghost facts bound the bytes of a line.
+#[derive(Clone, Copy, Debug, PartialEq, Eq)]
 pub struct Statement {
     pub month: u8,
     pub amount: u64,

@@ -94,7 +94,7 @@ impl YearSoFar<'_> {
         (u128::from(contract.amount) * u128::from(units.count) / year) as u64
     }
 
-    // What is charged of the penalties. Their sum, were it past 64 bits, would be cut to the month's cap like any other.
+    // What is charged of the penalties. The sum saturates: past 64 bits it is above the month's cap anyway.
     fn charged(&self, penalties: &PerRule<u64>) -> u64
         ensures { result ≡ charge self.now.terms.now.contract self.now.before.now.charged penalties.now }
     {
@@ -145,7 +145,7 @@ pub fn month_yen(
 }
 
 // A net above zero is a payment, below zero a claim of that size, and at zero neither.
-// Kept as a function: as a `From<i64>` it would no longer say that the number is a net.
+// A function, and no `From<i64>`, which would no longer say that the number is a net.
 pub fn settle_net(net: i64) -> Settlement
     ensures { result ≡ settlement_of net }
 {

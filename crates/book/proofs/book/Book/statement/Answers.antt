@@ -16,8 +16,8 @@ modest_read a h month (Ok k) l read e =
     subst Modest (sym read.1 ∙ same) (modest_at h month read.0.0 read.0.1)
 modest_read a h month (Err k) l read e = cc
 
-pub invariant_of-result-2 : goal.invariant_of-result-2
-invariant_of-result-2 c =
+pub invariant_of-result : goal.invariant_of-result
+invariant_of-result c =
     let m = modest_read c.args.self.now.table c.args.self.now.led c.args.month c.read_line.result c.in_ok-line.line c.read_line.ensures.0 (sym c.ok.ensures.value ∙ c.in_ok-line.was) in
     record {
       penalty_limits = (omega (arith, m.outage), omega (arith, m.market), omega (arith, m.dispatch));
