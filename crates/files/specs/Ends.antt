@@ -13,7 +13,7 @@ EndsProcess (Ok u) r = IsOkAnd r (λ code. exit_status code ≡ 0)
 EndsProcess (Err (Refused refusal)) r = IsOkAnd r (λ code. exit_status code ≡ 1)
 EndsProcess (Err (Failed error)) r = r ≡ Err error
 
--- an error is told when the run ends; a refusal has been told by its line
+-- an error is told on standard error; a refusal by its line
 abbrev pub is_error : Ended → Bool
 is_error (Refused refusal) = false
 is_error (Failed error) = true

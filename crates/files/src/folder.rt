@@ -6,10 +6,10 @@ ghost use Rattle.files.specs.Starts.{StartsFromFronts, EndsStart};
 use crate::ended::Ended;
 use crate::source::Source;
 use settlement::run::Run;
-use settlement::start::{TERMS_BYTES, start};
-use year_file::contents::{CONTENTS_BYTES, MOST_BODY_BYTES};
+use settlement::start::{CONTENTS_BYTES, TERMS_BYTES, start};
+use year_file::contents::MOST_BODY_BYTES;
 
-// The bytes of the longest body.
+// The bytes of the longest body, as the length of a buffer. One buffer serves all bodies of a year.
 pub const BODY_BYTES: usize = MOST_BODY_BYTES as usize;
 
 pub fn open_file(rt: &HostRuntime, folder: &str, name: &str) -> Result<Source, Ended>
@@ -19,7 +19,8 @@ pub fn open_file(rt: &HostRuntime, folder: &str, name: &str) -> Result<Source, E
     Ok(Source::open(rt, path.as_str())?)
 }
 
-// Starts a run from the terms of a folder and the contents at the start of a year's file.
+// Starts a run from the terms of a folder and the contents at the start of a year's file. Buffers of fixed size, cut to
+// what came: the first bytes of the two texts decide how a run starts, and no memory is taken for them.
 pub fn start_run(rt: &HostRuntime, folder: &str, year: &mut Source) -> Result<Run, Ended>
     ensures { MatchResult result (λ run. StartsFromFronts TERMS_BYTES CONTENTS_BYTES (Ok run)) (EndsStart TERMS_BYTES CONTENTS_BYTES) }
 {

@@ -13,11 +13,11 @@ pub struct Source {
 
 impl Source {
     pub fn open(rt: &HostRuntime, path: &str) -> io::Result<Source> {
-        match File::open(rt, path) {
-            Ok(file) => Ok(Source { file: Some(file) }),
-            Err(error) if error.kind() == ErrorKind::NotFound => Ok(Source { file: None }),
-            Err(error) => Err(error),
-        }
+        let file = match File::open(rt, path) {
+            Err(error) if error.kind() == ErrorKind::NotFound => None,
+            opened => Some(opened?),
+        };
+        Ok(Source { file })
     }
 
     // Reads until the buffer is full or the file ends, and answers how many bytes came, as `read` does. The bytes as the
@@ -25,6 +25,7 @@ impl Source {
     pub fn fill(&mut self, buf: &mut [u8]) -> io::Result<usize>
         ensures within { IfOk result (λ n. n ≤ length buf.new) }
         ensures missing { IsTrue (is_missing self.old) → (result ≡ Ok 0) × (buf.new ≡ buf.old) }
+        ensures same_file { is_missing self.new ≡ is_missing self.old }
     {
         match &mut self.file {
             Some(file) => fill_from(file, buf),
@@ -32,11 +33,12 @@ impl Source {
         }
     }
 
-    // The same for the first bytes of the buffer, at most as many as it has.
+    // The same for the first bytes of the buffer, at most as many as it has: one buffer serves bodies of any length.
     pub fn fill_front(&mut self, buf: &mut [u8], bytes: usize) -> io::Result<usize>
         ensures within { IfOk result (λ n. n ≤ length buf.new) }
         ensures few { IfOk result (λ n. n ≤ bytes) }
         ensures missing { IsTrue (is_missing self.old) → (result ≡ Ok 0) × (buf.new ≡ buf.old) }
+        ensures same_file { is_missing self.new ≡ is_missing self.old }
     {
         let end = bytes.min(buf.len());
         self.fill(&mut buf[..end])
@@ -50,7 +52,8 @@ impl Source {
     }
 }
 
-// Kept as a loop: the library's `read_exact` does not say how many bytes came before the end.
+// A loop: the library's `read_exact` does not say how many bytes came before the end, and
+// `read_to_end` takes memory for them.
 fn fill_from(file: &mut File, buf: &mut [u8]) -> io::Result<usize>
     ensures { IfOk result (λ n. n ≤ length buf.new) }
 {

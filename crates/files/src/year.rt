@@ -1,6 +1,7 @@
 // A year that is settled from the files of a folder.
-ghost use Rattle.std.specs.Prelude.{◌≡◌, ◌≤◌, length, Ok, IfOk, IsTrue, MatchResult};
+ghost use Rattle.std.specs.Prelude.{◌≡◌, ◌≤◌, false, [], length, Ok, IfOk, IsOkAnd, IsTrue, MatchResult};
 ghost use Rattle.book.specs.Calls.{open_month};
+ghost use Rattle.files.specs.Sources.{is_missing};
 ghost use Rattle.files.specs.Starts.{StartsFromFronts, EndsStart};
 
 use crate::ended::Ended;
@@ -8,9 +9,9 @@ use crate::folder::{open_file, start_run};
 use crate::source::Source;
 use settlement::body::MonthBody;
 use settlement::run::Run;
-use settlement::start::TERMS_BYTES;
+use settlement::start::{CONTENTS_BYTES, TERMS_BYTES};
 use std::io;
-use year_file::contents::{CONTENTS_BYTES, Span};
+use year_file::contents::Span;
 
 // The run, and the file that its bodies are read from.
 #[derive(Drop)]
@@ -28,10 +29,12 @@ impl Year {
         Ok(Year { source, run })
     }
 
-    // Reads the next body, which stands so in the file, into the front of the room.
+    // Reads the next body, which the file has at the span, into the front of the room: one buffer of the caller's serves
+    // all bodies.
     pub fn next_body<'a>(&mut self, span: Span, room: &'a mut [u8]) -> io::Result<MonthBody<'a>>
         ensures unchanged { self.new.run ≡ self.old.run }
         ensures within { IfOk result (λ body. (length body.text.now ≤ span.length) × (length body.text.now ≤ length room.old)) }
+        ensures missing { IsTrue (is_missing self.old.source) → IsOkAnd result (λ body. (body.text.now ≡ []) × (body.bytes_after ≡ false)) }
         ensures after_last { IfOk result (λ body. IsTrue body.bytes_after → (open_month self.old.run.book.table).month ≡ 12) }
     {
         let got = self.source.fill_front(room, span.length as usize)?;

@@ -1,23 +1,14 @@
 -- What reading a body says.
-use Rattle.std.proofs.Common.{◌≡◌, ℕ, ◌≤◌, Bool, false, List, Some, None, Ok, Err, Option, refl, arith}
+use Rattle.std.proofs.Common.{◌≡◌, ℕ, Bool, false, List, Ok, Err}
 use Rattle.std.proofs.lemmas.Bool.{false≢true}
 use Rattle.std.specs.Prelude.{Decides}
 use Rattle.std.specs.List.{AllZip}
-use Rattle.calendar.specs.Calendar.{slots_in}
-use Rattle.calendar.proofs.Slots.{slots_upto}
 use Rattle.year_file.specs.declared.body.BodyRefusal.{BodyRefusal}
 use Rattle.year_file.proofs.Bodies.{one_verdict}
 use Rattle.records.specs.declared.slot.Slot.{Slot}
 use Rattle.records.specs.Slots.{NoWorse}
 use Rattle.rules.specs.declared.assessment.OpenMonth.{OpenMonth}
-use Rattle.settlement.specs.Runs.{room_for, BodySays, BetterBody}
-
-few : (count : Option ℕ) → ((n : ℕ) → count ≡ Some n → n ≤ 1488) → room_for count ≤ 1488
-few (Some n) most = most n refl
-few None most = omega arith
-
-pub room_few : (year month : ℕ) → room_for (slots_in year month) ≤ 1488
-room_few year month = few (slots_in year month) (slots_upto year month)
+use Rattle.settlement.specs.Runs.{BodySays, BetterBody}
 
 same_slots : (m : OpenMonth) (text : List ℕ) (s t : List Slot) → BodySays m text (Ok s) → BodySays m text (Ok t) → s ≡ t
 same_slots m text s t first second = let e = one_verdict _ _ _ _ _ first second in cc

@@ -12,8 +12,8 @@ use rules::assessment::OpenMonth;
 pub fn is_better_kept(open: &OpenMonth, better: &[u8], worse: &[u8]) -> bool
     ensures { IsTrue result ↔ BetterBody «open».now better.now worse.now }
 {
-    let mut better_room = [Slot::EMPTY; MOST_SLOTS];
-    let mut worse_room = [Slot::EMPTY; MOST_SLOTS];
+    let mut better_room = [Slot::default(); MOST_SLOTS];
+    let mut worse_room = [Slot::default(); MOST_SLOTS];
     let Ok(better_slots) = read_slots(open, better, &mut better_room) else {
         return false;
     };

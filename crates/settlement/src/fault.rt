@@ -19,17 +19,14 @@ impl From<RunRefusal> for Refusal {
             RunRefusal::Price(refusal) => refusal.into(),
             RunRefusal::Contents(refusal) => refusal.into(),
             RunRefusal::Body(_, refusal) => refusal.into(),
-            RunRefusal::BytesAfter => Refusal {
-                number: 11,
-                place: 0,
-            },
+            RunRefusal::BytesAfter => Refusal::without_place(11),
             RunRefusal::Close(_, refusal) => refusal.into(),
         }
     }
 }
 
 impl RunRefusal {
-    // The month that was to be settled, or 0 before the first.
+    // The month that was to be settled, or 0 before the first, as a program prints it.
     pub fn month(&self) -> u8
         ensures { result ≡ run_month self.now }
     {

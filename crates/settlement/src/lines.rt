@@ -8,7 +8,7 @@ use crate::month::settle_month;
 use crate::refused::RunRefusal;
 use arrayvec::ArrayString;
 use book::book::Book;
-use statement::LINE_BYTES;
+pub use statement::LINE_BYTES;
 
 // Settles the book's first unsettled month from its body; answers its statement line.
 pub fn settle_line(
@@ -21,18 +21,15 @@ pub fn settle_line(
 {
     let month = book.open_month().month;
     let _settlement = settle_month(book, body)?;
-    match book.statement(month) {
-        Some(statement) => Ok(statement.line()),
-        None => unreachable!(),
-    }
+    let Some(statement) = book.statement(month) else {
+        unreachable!();
+    };
+    Ok(statement.line())
 }
 
 // The statement line of the settled months together.
 pub fn totals_line(book: &Book) -> ArrayString<LINE_BYTES>
     ensures { result.bytes ≡ text_at book.now.table 0 }
 {
-    match book.statement(0) {
-        Some(statement) => statement.line(),
-        None => unreachable!(),
-    }
+    book.totals_statement().line()
 }

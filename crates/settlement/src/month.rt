@@ -13,7 +13,7 @@ pub fn settle_month(book: &mut Book, body: MonthBody<'_>) -> Result<Settlement, 
     ensures { MonthSettled book.old.table body.entry.text.now body.entry.bytes_after result book.new.table }
 {
     let open = book.open_month();
-    let mut room = [Slot::EMPTY; MOST_SLOTS];
+    let mut room = [Slot::default(); MOST_SLOTS];
     let read = read_slots(&open, body.text, &mut room);
     let slots = read.map_err(|refusal| RunRefusal::Body(open.month, refusal))?;
     if open.month == 12 && body.bytes_after {

@@ -6,10 +6,10 @@ use crate::run::Run;
 use book::book::Book;
 use terms::pricing::price;
 use terms_file::reading::read_terms;
-use year_file::contents::{CONTENTS_BYTES, read_contents};
+pub use year_file::contents::CONTENTS_BYTES;
+use year_file::contents::read_contents;
 
-// So many bytes of the terms are enough to start a run by: 22 lines in form have at most 310. Of the year those of the
-// contents are.
+// So many bytes of the terms are enough to start a run by: 22 lines in form have at most 310. Of the year CONTENTS_BYTES are.
 pub const TERMS_BYTES: usize = 1_024;
 
 // Reads the terms, prices them, reads the contents at the start of the year's text, and opens a book.

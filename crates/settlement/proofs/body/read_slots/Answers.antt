@@ -1,8 +1,9 @@
-use Rattle.std.proofs.Common.{◌≤◌, rules}
-use Rattle.settlement.proofs.Bodies.{room_few}
+use Rattle.std.proofs.Common.{◌≤◌, sym, ◌∙◌, rules}
+use Rattle.calendar.proofs.Slots.{slots_upto}
 use Rattle.settlement.proofs.body.read_slots.Goals as goal
 
 pub slice_bounds-slots-end : goal.slice_bounds-slots-end
 slice_bounds-slots-end c =
-    let few : c.slots_of-count.result ≤ 1488 = rw c.slots_of-count.ensures (room_few c.args.open.now.year c.args.open.now.month) in
+    let few : c.in_ok-count.count ≤ 1488 =
+    slots_upto c.args.open.now.year c.args.open.now.month c.in_ok-count.count (sym c.slots_in.ensures ∙ c.in_ok-count.ensures.ok_part) in
     search rules
