@@ -13,7 +13,7 @@ use std::env;
 use std::process::ExitCode;
 
 // How many of the first months are better kept in each of the two books.
-#[derive(Clone, Copy, Default)]
+#[derive(Clone, Copy, Debug, Default, PartialEq, Eq)]
 struct BetterKept {
     first: u8,
     second: u8,
@@ -94,11 +94,11 @@ fn compare_folder(rt: &HostRuntime, folder: &str) -> Result<(), Ended> {
     print_comparison(rt, &first.run.book, &second.run.book, kept)
 }
 
+// The folder that the first argument names, or the current one. Not shared between programs: a shared one would take
+// the function as a closure, and ask that it can be called, for these two lines.
 fn run(rt: &HostRuntime) -> Result<(), Ended> {
-    match env::args(rt)?.nth(1) {
-        Some(folder) => compare_folder(rt, folder.as_str()),
-        None => compare_folder(rt, "."),
-    }
+    let folder = env::args(rt)?.nth(1);
+    compare_folder(rt, folder.as_deref().unwrap_or("."))
 }
 
 fn main(rt: HostRuntime) -> anyhow::Result<ExitCode> {

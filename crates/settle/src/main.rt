@@ -19,11 +19,11 @@ fn settle_folder(rt: &HostRuntime, folder: &str) -> Result<(), Ended> {
     write_line(rt, totals_line(&year.run.book).as_str().as_bytes())
 }
 
+// The folder that the first argument names, or the current one. Not shared between programs: a shared one would take
+// the function as a closure, and ask that it can be called, for these two lines.
 fn run(rt: &HostRuntime) -> Result<(), Ended> {
-    match env::args(rt)?.nth(1) {
-        Some(folder) => settle_folder(rt, folder.as_str()),
-        None => settle_folder(rt, "."),
-    }
+    let folder = env::args(rt)?.nth(1);
+    settle_folder(rt, folder.as_deref().unwrap_or("."))
 }
 
 fn main(rt: HostRuntime) -> anyhow::Result<ExitCode> {

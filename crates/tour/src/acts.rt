@@ -8,7 +8,7 @@ use rules::rule::Rule;
 use yen::Settlement;
 
 // Why an objection was refused, and what its notice came to, which was settled after all.
-#[derive(Clone, Copy)]
+#[derive(Clone, Copy, Debug, PartialEq, Eq)]
 pub(crate) struct SettledAfterAll {
     pub refusal: ObjectRefusal,
     pub settlement: Settlement,
@@ -29,7 +29,7 @@ pub(crate) fn close_and_object<R: Rule>(
                 refusal,
                 settlement,
             }),
-            Err((_notice, _refusal)) => unreachable(),
+            Err((_notice, _refusal)) => unreachable!(),
         },
     };
     Ok((numbers, objected))
@@ -50,10 +50,10 @@ pub(crate) fn offer_foreign(
     };
     let numbers = notice.numbers();
     match first.settle(notice) {
-        Ok(_settlement) => unreachable(),
+        Ok(_settlement) => unreachable!(),
         Err((back, refusal)) => match second.settle(back) {
             Ok(settlement) => Some((numbers, refusal, settlement)),
-            Err((_notice, _refusal)) => unreachable(),
+            Err((_notice, _refusal)) => unreachable!(),
         },
     }
 }
@@ -65,10 +65,10 @@ pub(crate) fn close_twice(
 ) -> Result<(CloseRefusal, Settlement), CloseRefusal> {
     let notice = book.close(slots)?;
     match book.close(slots) {
-        Ok(_second) => unreachable(),
+        Ok(_second) => unreachable!(),
         Err(refusal) => match book.settle(notice) {
             Ok(settlement) => Ok((refusal, settlement)),
-            Err((_notice, _refusal)) => unreachable(),
+            Err((_notice, _refusal)) => unreachable!(),
         },
     }
 }

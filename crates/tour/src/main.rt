@@ -11,6 +11,7 @@ use book::book::Book;
 use calendar::MOST_SLOTS;
 use records::slot::{Outage, Slot};
 use rule::LowReserveRule;
+use statement::LINE_BYTES;
 use std::io;
 use std::io::Write;
 use telling::{refused, told};
@@ -211,7 +212,7 @@ fn show_lines(rt: &HostRuntime, book: &Book) -> io::Result<()> {
     )
 }
 
-// The first months, one call after the other. April has 1,440 slots, and May 1,488.
+// The first months, one call after the other. April has 1,440 slots, and May 1,488: parts of one list serve both.
 fn show_months(
     rt: &HostRuntime,
     book: &mut Book,
@@ -236,9 +237,7 @@ fn show_months(
     show_objection(rt, book, &slots[0..1440])?;
     show_second_close(rt, book, &slots[0..1440])?;
     show_foreign(rt, book, other, &slots[0..1440])?;
-    for slot in slots.iter_mut() {
-        *slot = SHORT;
-    }
+    slots.fill(SHORT);
     told(
         rt,
         "close May, never delivered, and settle",
@@ -247,7 +246,7 @@ fn show_months(
     show_lines(rt, book)
 }
 
-// The months that are left, and a month too many.
+// The months that are left, and a month too many. The totals go into a buffer of the size that print line asks for.
 fn show_end(rt: &HostRuntime, book: &mut Book, slots: &[Slot]) -> io::Result<()> {
     if slots.len() < MOST_SLOTS {
         return Ok(());
@@ -257,7 +256,7 @@ fn show_end(rt: &HostRuntime, book: &mut Book, slots: &[Slot]) -> io::Result<()>
         let _ = book.close_and_settle(&slots[..48 * days]);
     }
     told(rt, "close a thirteenth month", book.close_and_settle(slots))?;
-    let mut out = [0u8; 128];
+    let mut out = [0u8; LINE_BYTES];
     match book.print_line(0, &mut out) {
         Ok(n) => rt.stdout().write_all(&out[..n]),
         Err(refusal) => refused(rt, "print the totals", refusal),

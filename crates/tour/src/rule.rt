@@ -5,7 +5,7 @@ ghost use Rattle.std.proofs.Common.{rules};
 use records::slot::Slot;
 use rules::rule::Rule;
 
-#[derive(Clone, Copy)]
+#[derive(Clone, Copy, Debug, PartialEq, Eq)]
 pub(crate) struct LowReserveRule;
 
 impl Rule for LowReserveRule {
