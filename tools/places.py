@@ -22,7 +22,6 @@ OWN_ENUM = re.compile(r"^\s*(pub(\(crate\))? )?enum \w+")
 INDEX_LOOP = re.compile(r"^\s*(while |for \w+ in [\w.()]+\.\.)")
 CONVERSION = re.compile(r"fn (refusal|from|fmt|eq|cmp|partial_cmp|clone|own_number|numbers)\b|const EMPTY\b")
 PRINTED = re.compile(r"print(ln)?!\(")
-WIDENING = re.compile(r" as (u64|u128|i128|usize|i64)\b")
 PLACE_PAIR = re.compile(r"(text|out): &(mut )?\[u8\],?\s+at: usize")
 LENGTH_BESIDE = re.compile(r"&(mut )?\w+(\.\w+)*\[0?\.\.\w+(\.\w+)*( as usize)?\]")
 STEP = re.compile(r"\bdyn\b|\bfn\(|&\[fn|Box<")
@@ -103,7 +102,6 @@ def main():
         ("3 loops by index or while", lines_with(INDEX_LOOP, files)),
         ("4 conversions and the like", lines_with(CONVERSION, files)),
         ("4 prints", lines_with(PRINTED, files)),
-        ("4 widening casts", lines_with(WIDENING, files)),
         ("5 facts and parameters together", together(files)),
         ("6 a place or a length beside", lines_with(PLACE_PAIR, files) + lines_with(LENGTH_BESIDE, files)),
         ("7 steps by dyn, pointer or box", lines_with(STEP, files)),
