@@ -1,5 +1,6 @@
 // A file that is read piece by piece. One that is missing counts as empty.
-ghost use Rattle.std.specs.Prelude.{◌≡◌, ◌≤◌, true, length, IfOk, IsTrue};
+ghost use Rattle.std.specs.Prelude.{◌≡◌, ◌≢◌, ◌≤◌, true, length, IfErr, IfOk, IsTrue};
+ghost use Rattle.std.specs.IoError.{error_kind};
 ghost use Rattle.files.specs.Sources.{is_missing};
 
 use std::fs::File;
@@ -12,7 +13,10 @@ pub struct Source {
 }
 
 impl Source {
-    pub fn open(rt: &HostRuntime, path: &str) -> io::Result<Source> {
+    // A file that is not there is no error.
+    pub fn open(rt: &HostRuntime, path: &str) -> io::Result<Source>
+        ensures { IfErr result (λ error. error_kind error ≢ ErrorKind.NotFound) }
+    {
         let file = match File::open(rt, path) {
             Err(error) if error.kind() == ErrorKind::NotFound => None,
             opened => Some(opened?),

@@ -29,8 +29,8 @@ impl Year {
         Ok(Year { source, run })
     }
 
-    // Reads the next body, which the file has at the span, into the front of the room: one buffer of the caller's serves
-    // all bodies.
+    // Reads the next body into the front of the room: one buffer of the caller's serves all bodies. Bodies follow one
+    // another, so of the span only the length is asked for.
     pub fn next_body<'a>(&mut self, span: Span, room: &'a mut [u8]) -> io::Result<MonthBody<'a>>
         ensures unchanged { self.new.run ≡ self.old.run }
         ensures within { IfOk result (λ body. (length body.text.now ≤ span.length) × (length body.text.now ≤ length room.old)) }
