@@ -1,4 +1,5 @@
 pub mod Runs
 pub mod Ended
 pub mod Records
+pub mod Joins
 pub mod Fronts
