@@ -19,7 +19,7 @@ use Rattle.book.specs.declared.table.Notice.{Notice}
 use Rattle.book.specs.declared.table.Table.{Table}
 use Rattle.book.specs.Lines.{empty, line_at, before_of, line_of}
 use Rattle.book.specs.Calls.{Opened, settled_lines, shown, next_line, LawfulRules, Closes, Settles, Objects}
-use Rattle.book.specs.History.{Call, closing, settling, objecting, reading_line, reading_totals, printing_line, Step, Led, opened, called}
+use Rattle.book.specs.History.{Call, closing, settling, objecting, reading_line, reading_totals, reading_statement, reading_totals_statement, printing_line, Step, Led, opened, called}
 use Rattle.book.specs.Standing.{Event, closed, settled, objected, events, objections, Month, pending, standing, paid, claimed, carried, standing_line, Stands, amounts_in}
 
 -- a month that was closed by lawful rules on slots within their limits
@@ -163,6 +163,8 @@ at_step t h a k (objecting n (Ok u)) b s = at_object t (events h) a k n b s
 at_step t h a k (objecting n (Err e)) b s = same t (events h) a k b s.1.unchanged
 at_step t h a k (reading_line month r) b s = same t (events h) a k b s.1
 at_step t h a k (reading_totals r) b s = same t (events h) a k b s.1
+at_step t h a k (reading_statement month r) b s = same t (events h) a k b s.1
+at_step t h a k (reading_totals_statement r) b s = same t (events h) a k b s.1
 at_step t h a k (printing_line month old r new) b s = same t (events h) a k b s.1
 
 pub kept : {t : PricedTerms} {h : List Call} {a : Table} → Led t h a → Kept t (events h) a

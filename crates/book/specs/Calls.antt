@@ -1,5 +1,5 @@
 -- What each call of a book answers, and the whole table after it.
-use Rattle.std.specs.Prelude.{◌≡◌, ℕ, zero, suc, ◌+◌, ◌-◌, ◌<◌, ◌≤◌, Bool, true, false, if◌then◌else◌, ◌⊎◌, List, ◌++◌, length, take, drop, replicate, Some, Result, MatchResult, slice_set}
+use Rattle.std.specs.Prelude.{◌≡◌, ℕ, zero, suc, ◌+◌, ◌-◌, ◌<◌, ◌≤◌, Bool, true, false, if◌then◌else◌, ◌⊎◌, List, ◌++◌, length, take, drop, replicate, Option, Some, Result, MatchOption, MatchResult, slice_set}
 use Rattle.records.specs.declared.slot.Slot.{Slot}
 use Rattle.rules.specs.declared.assessment.OpenMonth.{OpenMonth}
 use Rattle.rules.specs.declared.assessment.PerRule.{PerRule}
@@ -18,7 +18,8 @@ use Rattle.book.specs.declared.refused.ObjectRefusal.TheVariants.{OtherNotice, L
 use Rattle.book.specs.declared.refused.PrintLineRefusal.{PrintLineRefusal}
 use Rattle.book.specs.declared.refused.PrintLineRefusal.TheVariants as print
 use Rattle.book.specs.declared.refused.ReadLineRefusal.{ReadLineRefusal}
-use Rattle.statement.specs.Text.{text_of}
+use Rattle.statement.specs.Text.{text_of, statement_text}
+use Rattle.statement.specs.declared.statement.Statement.{Statement}
 use Rattle.book.specs.declared.refused.SettleRefusal.{SettleRefusal}
 use Rattle.book.specs.declared.table.Notice.{Notice}
 use Rattle.book.specs.declared.table.Table.{Table}
@@ -146,6 +147,13 @@ Printable a month = (month ≡ 0) ⊎ Shown a month
 abbrev pub text_at : Table → ℕ → List ℕ
 text_at a zero = totals_text (totals_of (settled_lines a))
 text_at a (suc n) = line_text (line_at a.lines n)
+
+-- the statement has the month's text, if there is one
+abbrev pub StatementRead : Table → ℕ → Option Statement → Type 0
+StatementRead a month r = MatchOption r (Printable a month → ⊥) (λ s. Printable a month × (statement_text s ≡ text_at a month))
+
+abbrev pub TotalsStatementRead : Table → Statement → Type 0
+TotalsStatementRead a s = statement_text s ≡ text_at a 0
 
 -- the text stands at the start of the buffer, and the rest is as it was
 pub record Prints (a : Table) (month : ℕ) (old : List ℕ) (n : ℕ) (new : List ℕ) : Type 0 where

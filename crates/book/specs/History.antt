@@ -1,8 +1,9 @@
 -- A book's history: the calls that were made of it, the last one first, with their answers.
-use Rattle.std.specs.Prelude.{◌≡◌, ℕ, List, [], ◌∷◌, Ok, Err, Result, MatchResult}
+use Rattle.std.specs.Prelude.{◌≡◌, ℕ, List, [], ◌∷◌, Ok, Err, Option, Result, MatchResult}
 use Rattle.records.specs.declared.slot.Slot.{Slot}
 use Rattle.rules.specs.declared.assessment.PerRule.{PerRule}
 use Rattle.rules.specs.Months.{RuleOf}
+use Rattle.statement.specs.declared.statement.Statement.{Statement}
 use Rattle.terms.specs.declared.contract.PricedTerms.{PricedTerms}
 use Rattle.yen.specs.declared.Settlement.{Settlement}
 use Rattle.book.specs.declared.line.Line.{Line}
@@ -14,7 +15,7 @@ use Rattle.book.specs.declared.refused.ReadLineRefusal.{ReadLineRefusal}
 use Rattle.book.specs.declared.refused.SettleRefusal.{SettleRefusal}
 use Rattle.book.specs.declared.table.Notice.{Notice}
 use Rattle.book.specs.declared.table.Table.{Table}
-use Rattle.book.specs.Calls.{Opened, Closed, Settled, Objected, LineRead, TotalsRead, LinePrinted, standard_rules}
+use Rattle.book.specs.Calls.{Opened, Closed, Settled, Objected, LineRead, TotalsRead, StatementRead, TotalsStatementRead, LinePrinted, standard_rules}
 
 pub data Call : Type 0 where
   closing : List Slot → PerRule RuleOf → Result Notice CloseRefusal → Call
@@ -22,6 +23,8 @@ pub data Call : Type 0 where
   objecting : Notice → Result (Unit {0}) (Notice × ObjectRefusal) → Call
   reading_line : ℕ → Result Line ReadLineRefusal → Call
   reading_totals : Totals → Call
+  reading_statement : ℕ → Option Statement → Call
+  reading_totals_statement : Statement → Call
   printing_line : ℕ → List ℕ → Result ℕ PrintLineRefusal → List ℕ → Call
 
 -- exactly what the contract of the call ensures
@@ -31,6 +34,8 @@ Step a (settling n r) b = Settled a n r b
 Step a (objecting n r) b = Objected a n r b
 Step a (reading_line month r) b = LineRead a month r × (b ≡ a)
 Step a (reading_totals t) b = TotalsRead a t × (b ≡ a)
+Step a (reading_statement month r) b = StatementRead a month r × (b ≡ a)
+Step a (reading_totals_statement s) b = TotalsStatementRead a s × (b ≡ a)
 Step a (printing_line month old r new) b = LinePrinted a month old r new × (b ≡ a)
 
 -- the table after these calls of a book that was opened on the terms

@@ -10,7 +10,7 @@ use Rattle.yen.specs.declared.Settlement.TheVariants.{Payment, Claim, Neither}
 use Rattle.yen.specs.Yen.{amount_of, yen_of}
 use Rattle.book.specs.declared.line.Line.{Line}
 use Rattle.book.specs.Lines.{line_at, line_of}
-use Rattle.book.specs.History.{Call, closing, settling, objecting, reading_line, reading_totals, printing_line}
+use Rattle.book.specs.History.{Call, closing, settling, objecting, reading_line, reading_totals, reading_statement, reading_totals_statement, printing_line}
 
 -- a call that was accepted and counts
 pub data Event : Type 0 where
@@ -29,6 +29,8 @@ events (objecting n (Ok u) ∷ h) = objected ∷ events h
 events (objecting n (Err e) ∷ h) = events h
 events (reading_line month r ∷ h) = events h
 events (reading_totals t ∷ h) = events h
+events (reading_statement month r ∷ h) = events h
+events (reading_totals_statement s ∷ h) = events h
 events (printing_line month old r new ∷ h) = events h
 
 -- before the first close

@@ -1,10 +1,9 @@
 // The book and its calls.
 #![tactic(auto, using(crate::proofs::Has::year, crate::proofs::Has::month_out))]
 
-ghost use Rattle.std.specs.Prelude.{◌≡◌, ◌<◌, ◌≤◌, take, ◌↔◌, IsTrue, MatchOption};
-ghost use Rattle.statement.specs.Text.{statement_text};
-ghost use Rattle.book.specs.Calls.{Opened, settled_lines, open_month, next_line, standard_rules, Awaits, shown, Printable, text_at};
-ghost use Rattle.book.specs.History.{Step, closing, settling, objecting, reading_line, reading_totals, printing_line, HasHistory, ClosedAndSettled};
+ghost use Rattle.std.specs.Prelude.{◌≡◌, ◌<◌, ◌≤◌, take, ◌↔◌, IsTrue};
+ghost use Rattle.book.specs.Calls.{Opened, settled_lines, open_month, next_line, standard_rules, Awaits, shown};
+ghost use Rattle.book.specs.History.{Step, closing, settling, objecting, reading_line, reading_totals, reading_statement, reading_totals_statement, printing_line, HasHistory, ClosedAndSettled};
 
 use crate::line::{Line, Totals};
 use crate::refused::{
@@ -215,7 +214,7 @@ impl Book {
     // The statement of the totals, which is that of month 0. Field by field here and below: one function of both would take
     // five figures and ask for all their bounds.
     pub fn totals_statement(&self) -> Statement
-        ensures { statement_text result ≡ text_at self.now.table 0 }
+        ensures { Step self.now.table (reading_totals_statement result) self.now.table }
     {
         let totals = self.settled_lines().totals();
         Statement {
@@ -229,7 +228,7 @@ impl Book {
 
     // The statement of a month that is settled or under notice, or of the totals as month 0, as print line counts.
     pub fn statement(&self, month: u8) -> Option<Statement>
-        ensures { MatchOption result (Printable self.now.table month → ⊥) (λ s. Printable self.now.table month × (statement_text s ≡ text_at self.now.table month)) }
+        ensures { Step self.now.table (reading_statement month result) self.now.table }
     {
         if month == 0 {
             return Some(self.totals_statement());

@@ -16,8 +16,8 @@ pub struct Line {
     pub net: i64,
 }
 
-// The number of the settled months, and their sums in yen.
-#[derive(Clone, Copy, Debug, PartialEq, Eq)]
+// The number of the settled months, and their sums in yen. The default is that of none.
+#[derive(Clone, Copy, Debug, Default, PartialEq, Eq)]
 pub struct Totals {
     pub months: u8,
     pub amount: u64,
