@@ -2,6 +2,7 @@
 #![tactic(auto, using(crate::proofs::Has::year, crate::proofs::Has::month_out))]
 
 ghost use Rattle.std.specs.Prelude.{◌≡◌, ◌<◌, ◌≤◌, take, ◌↔◌, IsTrue};
+ghost use Rattle.rules.specs.Counts.{counts_of};
 ghost use Rattle.book.specs.Calls.{Opened, settled_lines, open_month, next_line, standard_rules, Awaits, shown};
 ghost use Rattle.book.specs.History.{Step, closing, settling, objecting, reading_line, reading_totals, reading_statement, reading_totals_statement, printing_line, HasHistory, ClosedAndSettled};
 
@@ -83,7 +84,7 @@ impl Book {
     // The line of the first unsettled month, as it was assessed.
     fn next_line(&self, assessment: &Assessment) -> Line
         requires { self.now.table.settled < 12 }
-        ensures { result ≡ next_line self.now.table assessment.now.numbers assessment.now.units }
+        ensures { result ≡ next_line self.now.table assessment.now.numbers (counts_of assessment.now.units) }
     {
         let before = self.settled_lines().before();
         let month = self.table.settled + 1;

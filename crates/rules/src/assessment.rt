@@ -1,7 +1,5 @@
 // What three rules come to over a month.
-ghost use Rattle.std.specs.Prelude.{◌≡◌, ℕ, ◌≤◌};
-
-use std::marker::Model;
+ghost use Rattle.std.specs.Prelude.{◌≡◌, ◌≤◌};
 
 // One thing for each place that a rule is asked in.
 #[derive(Clone, Copy, Debug, Default, PartialEq, Eq)]
@@ -19,20 +17,12 @@ pub struct OpenMonth {
     pub assessed: u32,
 }
 
-// The units of a month under a rule. Clauses see the number itself. It is at most ten million for each of 1,488 slots.
+// The units of a month under a rule: at most ten million for each of 1,488 slots. A ghost field and no `Model`: a struct
+// that holds a value with a `Model` is not copied where it is passed by value and used again.
 #[derive(Clone, Copy, Debug, PartialEq, Eq)]
 pub struct Units {
     pub count: u64,
-}
-
-impl Model for Units {
-    ghost Value = { ℕ };
-
-    ghost view = { λ units. units.count };
-
-    ghost invariant = { λ units. units.count ≤ 14880000000 };
-
-    ghost inverse = { λ n. record { count = n } };
+    ghost limit: { count ≤ 14880000000 },
 }
 
 // The numbers of the three rules, and the units of the month under each.
@@ -45,7 +35,11 @@ pub struct Assessment {
 impl Assessment {
     // The units as plain numbers, field by field: a `map` of `PerRule` would have to ask that its closure can be called.
     pub fn counts(&self) -> PerRule<u64>
-        ensures { result ≡ self.now.units }
+        ensures { result ≡ record {
+          outage = self.now.units.outage.count;
+          market = self.now.units.market.count;
+          dispatch = self.now.units.dispatch.count;
+        } }
     {
         let PerRule {
             outage,

@@ -1,6 +1,7 @@
 // A month's slots, assessed.
 ghost use Rattle.std.specs.Prelude.{◌≡◌, ◌≤◌, length, All, IsTrue, ◌↔◌, MatchOption, MatchResult};
 ghost use Rattle.records.specs.Slots.{Within};
+ghost use Rattle.rules.specs.Counts.{counts_of};
 ghost use Rattle.rules.specs.Months.{Fit, FirstUnfit, FitSlots, Refuses, Assesses, month_units};
 
 use crate::assessment::{Assessment, OpenMonth, PerRule, SlotsRefusal, Units};
@@ -36,7 +37,7 @@ struct MonthSlots<'a> {
 impl MonthSlots<'_> {
     // Their units under any rule.
     fn units_of<R: Rule>(&self, rule: &R) -> Units
-        ensures { result ≡ month_units (R.meaning rule.now) self.now.slots.now }
+        ensures { result.count ≡ month_units (R.meaning rule.now) self.now.slots.now }
     {
         let units = |slot: &Slot| -> u64
             requires { Within slot.now }
@@ -76,7 +77,7 @@ pub fn assess<R1: Rule, R2: Rule, R3: Rule>(
           outage = record { number = R1.NUMBER; units = R1.meaning outage.now };
           market = record { number = R2.NUMBER; units = R2.meaning market.now };
           dispatch = record { number = R3.NUMBER; units = R3.meaning dispatch.now };
-        }) a.numbers a.units)
+        }) a.numbers (counts_of a.units))
         (λ e. Refuses «open».now slots.now e) }
 {
     let checked = check_slots(open, slots)?;

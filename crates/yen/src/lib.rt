@@ -2,6 +2,7 @@
 #![tactic(auto)]
 
 ghost use Rattle.std.specs.Prelude.{◌≡◌, ◌≤◌, pos, ◌-ℤ◌, Some};
+ghost use Rattle.rules.specs.Counts.{counts_of};
 ghost use Rattle.yen.specs.Yen.{amount_of, excess, outage_penalty, shortfall_penalty, charge, yen_of, settlement_of, settlement_text};
 
 use rules::assessment::{Assessment, PerRule, Units};
@@ -67,7 +68,7 @@ impl YearSoFar<'_> {
 
     // The units of the month that go beyond what a year may be out without a penalty.
     fn excess(&self, units: Units) -> Units
-        ensures { result ≡ excess self.now.terms.now.contract self.now.before.now.outage_units units }
+        ensures { result.count ≡ excess self.now.terms.now.contract self.now.before.now.outage_units units.count }
     {
         let so_far = u128::from(self.before.outage_units) + u128::from(units.count);
         let free = 8_640 * u128::from(self.terms.contract().assessed);
@@ -77,7 +78,7 @@ impl YearSoFar<'_> {
     }
 
     fn outage_penalty(&self, units: Units) -> u64
-        ensures { result ≡ outage_penalty self.now.terms.now.contract self.now.before.now.outage_units units }
+        ensures { result ≡ outage_penalty self.now.terms.now.contract self.now.before.now.outage_units units.count }
     {
         let contract = self.terms.contract();
         let excess = self.excess(units);
@@ -87,7 +88,7 @@ impl YearSoFar<'_> {
 
     // The penalty of the market or the dispatch rule. Two units are a kilowatt-hour.
     fn shortfall_penalty(&self, units: Units) -> u64
-        ensures { result ≡ shortfall_penalty self.now.terms.now.contract units }
+        ensures { result ≡ shortfall_penalty self.now.terms.now.contract units.count }
     {
         let contract = self.terms.contract();
         let year = 2 * u128::from(contract.capacity) * u128::from(contract.hours);
@@ -125,7 +126,7 @@ pub fn month_yen(
     before: &Before,
     assessment: &Assessment,
 ) -> MonthYen
-    ensures { result ≡ yen_of terms.now.contract month before.now assessment.now.units }
+    ensures { result ≡ yen_of terms.now.contract month before.now (counts_of assessment.now.units) }
 {
     let year = YearSoFar { terms, before };
     let units = assessment.units;
