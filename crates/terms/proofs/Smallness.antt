@@ -21,7 +21,7 @@ pub record Small (d k : ℕ) (f : Fraction) : Type 0 where
 pub fits : {d k : ℕ} (f : Fraction) → Small d k f → k * d < 2 ^ 128 → d < 2 ^ 128 → (f.num < 2 ^ 128) × (f.den < 2 ^ 128)
 fits {d} {k} f s top bottom = (omega (arith, s.worth, mul-le-mul_left k s.bottom), omega (arith, s.bottom))
 
-of_small : {d k m M : ℕ} {f : Fraction} → m ≤ M → Small d k f → Small d (M * k) (of m f)
+pub of_small : {d k m M : ℕ} {f : Fraction} → m ≤ M → Small d k f → Small d (M * k) (of m f)
 of_small {d} {k} {m} {M} {f} h s = record { some = s.some; bottom = s.bottom; worth = rw (mul_assoc M k f.den) (mul-le m f.num M (k * f.den) h s.worth) }
 
 pub times_small : {d k d' k' : ℕ} {f g h : Fraction} → h ≡ times f g → Small d k f → Small d' k' g → Small (d * d') (k * k') h
@@ -43,14 +43,20 @@ plus_small {d} {k} {d'} {k'} {f} {g} e s t =
     })
 
 -- wider bounds
-small_wider : {d k d' k' : ℕ} {f : Fraction} → d ≤ d' → k ≤ k' → Small d k f → Small d' k' f
+pub small_wider : {d k d' k' : ℕ} {f : Fraction} → d ≤ d' → k ≤ k' → Small d k f → Small d' k' f
 small_wider {d} {k} {d'} {k'} {f} hd hk s = let worth = mul-le k f.den k' f.den hk (omega arith) in record { some = s.some; bottom = omega (arith, s.bottom); worth = omega (arith, s.worth) }
 
 one_small : Small 1 1 one
 one_small = record { some = omega arith; bottom = omega arith; worth = omega arith }
 
-ratio_small : (i : BidAndSettled ℕ) → IndexInRange i → Small 9999 100 (ratio i)
+pub ratio_small : (i : BidAndSettled ℕ) → IndexInRange i → Small 9999 100 (ratio i)
 ratio_small i h = record { some = omega (arith, h.bid_from); bottom = h.bid_to; worth = omega (arith, h.bid_from, h.settled_to) }
+
+pub factor_small : (choice : ℕ) (i : BidAndSettled ℕ) → IndexInRange i → Small 9999 100 (factor choice i)
+factor_small choice i r = cond_both (eqb choice 1) (ratio i) one (λ f. Small 9999 100 f) (λ _. ratio_small i r) (λ _. small_wider (omega arith) (omega arith) one_small)
+
+pub together_small : (t : Terms) → PriceInRange t → Small 9999 60000000 (together t)
+together_small t h = of_small {M = 600000} (omega (arith, h.capital, h.upkeep, h.returns)) (ratio_small _ h.consumer)
 
 -- the bounds of an item, of the factor of the rates and of the total
 abbrev pub Item : Fraction → Type 0
@@ -64,7 +70,7 @@ Total f = Small 4998500149995000 140000000 f
 
 pub item_small : {f : Fraction} (yen choice : ℕ) (i : BidAndSettled ℕ) → f ≡ of yen (factor choice i) → yen ≤ 200000 → IndexInRange i → Item f
 item_small yen choice i e h r =
-    rw e (of_small h (cond_both (eqb choice 1) (ratio i) one (λ f. Small 9999 100 f) (λ _. ratio_small i r) (λ _. small_wider (omega arith) (omega arith) one_small)))
+    rw e (of_small h (factor_small choice i r))
 
 parts_small : (z : ℤ) (rate : Fraction) → z ≤ℤ pos 21000 → parts z ≡ Some rate → Rate rate
 parts_small (pos n) rate h e =
@@ -84,7 +90,7 @@ total_small t rate h r =
     (λ _.
     plus_small refl (plus_small refl (item_small t.capital _ _ refl h.capital h.deflator) (item_small t.upkeep _ _ refl h.upkeep h.corporate))
     (times_small refl (item_small t.returns _ _ refl h.returns h.deflator) r))
-    (λ _. small_wider (omega arith) (omega arith) (of_small {M = 600000} (omega (arith, h.capital, h.upkeep, h.returns)) (ratio_small _ h.consumer)))
+    (λ _. small_wider (omega arith) (omega arith) (together_small t h))
 
 -- the quotient is the whole part
 pub whole : (f : Fraction) → 0 < f.den → WholePart f (cut f)

@@ -29,9 +29,9 @@ no_minus n us rest h e =
     omega (arith, digit.0, ap (λ l. get_or l 0 0) e, get_or_append_left (decimal n) rest 0 0 some)
 
 -- where a minus comes first, and after it no number but 0, no line does
-pub no_line : (k : ℕ) (bs us : List ℕ) → bs ≡ 45 ∷ us → ((n : ℕ) (rest : List ℕ) → Begins (ended 10) (Short 13) (suc n) us rest → ⊥) → NoneFirst (Begins line_text (InForm k)) bs
-no_line k bs us e none (pos n) rest b = no_minus n us (10 ∷ rest) b.fit (sym e ∙ b.front ∙ append_assoc (decimal n) (10 ∷ []) rest)
-no_line k bs us e none (negsuc n) rest b = none n rest (record { fit = b.fit.0; front = ap (drop 1) (sym e ∙ b.front) })
+pub no_line_minus : (k : ℕ) (bs us : List ℕ) → bs ≡ 45 ∷ us → ((n : ℕ) (rest : List ℕ) → Begins (ended 10) (Short 13) (suc n) us rest → ⊥) → NoneFirst (Begins line_text (InForm k)) bs
+no_line_minus k bs us e none (pos n) rest b = no_minus n us (10 ∷ rest) b.fit (sym e ∙ b.front ∙ append_assoc (decimal n) (10 ∷ []) rest)
+no_line_minus k bs us e none (negsuc n) rest b = none n rest (record { fit = b.fit.0; front = ap (drop 1) (sym e ∙ b.front) })
 
 -- one line at most begins a text
 pub one_line : (k : ℕ) (y z : ℤ) (us rest : List ℕ) → InForm k y → InForm k z → line_text y ++ us ≡ line_text z ++ rest → (y ≡ z) × (us ≡ rest)

@@ -1,8 +1,8 @@
 -- Facts of the ranges, each computed over the whole table.
-use Rattle.std.proofs.Common.{◌≡◌, ℕ, ◌<◌, Bool, true, ◌&&◌, ◌||◌, List, get_or, int_le, ℤ, pos, negsuc, ◌≤ℤ◌, refl, arith}
+use Rattle.std.proofs.Common.{◌≡◌, ℕ, ◌<◌, Bool, true, ◌&&◌, ◌||◌, List, get_or, int_le, ℤ, pos, negsuc, ◌≤ℤ◌, None, refl, arith}
 use Rattle.std.proofs.lemmas.Int.{ints}
 use Rattle.std.proofs.lemmas.Bool.{agree_below_at}
-use Rattle.terms.specs.Ranges.{ranges, within, in_range}
+use Rattle.terms.specs.Ranges.{ranges, within, in_range, first_out}
 use Rattle.terms_file.specs.declared.reading.Numbers.{Numbers}
 use Rattle.terms_file.specs.TermsFile.{InForm, rate_at}
 use Rattle.terms.proofs.Walk.{all_in}
@@ -18,7 +18,7 @@ bounds : (r : ℤ × ℤ) (z : ℤ) (b : Bool) → (within r z && b) ≡ true �
 bounds r z b e = grind (arith, ints)
 
 -- the number at the place k lies in its range
-between : (ns : List ℤ) (k : ℕ) → in_range ns k ≡ true → (low k ≤ℤ get_or ns k (pos 0)) × (get_or ns k (pos 0) ≤ℤ high k)
+pub between : (ns : List ℤ) (k : ℕ) → in_range ns k ≡ true → (low k ≤ℤ get_or ns k (pos 0)) × (get_or ns k (pos 0) ≤ℤ high k)
 between ns k e = bounds (get_or ranges k (pos 0, pos 0)) (get_or ns k (pos 0)) _ e
 
 pub range_at : (s : Numbers) (k : ℕ) → k < 22 → (low k ≤ℤ get_or s.values k (pos 0)) × (get_or s.values k (pos 0) ≤ℤ high k)
@@ -32,9 +32,9 @@ plain : ℕ → Bool
 plain k = int_le (pos 0) (low k) && int_le (high k) (pos 2000000)
 
 -- the first 19 numbers have no sign
-pub plain_at : (s : Numbers) (k : ℕ) → k < 19 → (pos 0 ≤ℤ get_or s.values k (pos 0)) × (get_or s.values k (pos 0) ≤ℤ pos 2000000)
+pub plain_at : (ns : List ℤ) → first_out ns ≡ None → (k : ℕ) → k < 19 → (pos 0 ≤ℤ get_or ns k (pos 0)) × (get_or ns k (pos 0) ≤ℤ pos 2000000)
 unfolding plain
-plain_at s k h = narrower (low k) (high k) _ _ _ (agree_below_at plain (λ _. true) 19 k refl h) (range_at s k (omega arith))
+plain_at ns e k h = narrower (low k) (high k) _ _ _ (agree_below_at plain (λ _. true) 19 k refl h) (between ns k (all_in ns e k (omega arith)))
 
 written : ℕ → Bool
 written k = int_le (negsuc 9999999999998) (low k) && int_le (high k) (pos 9999999999999) && (int_le (pos 0) (low k) || rate_at k)

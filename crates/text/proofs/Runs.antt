@@ -32,7 +32,7 @@ covers (x ∷ xs) (y ∷ ys) us bs d n e =
     omega (arith, covers xs ys us bs d.1 n e')
 
 -- a text begins with one run of digits
-one_run : (xs ys us bs : List ℕ) → AllDigits 10 xs → AllDigits 10 ys → NoDigit us → NoDigit bs → xs ++ us ≡ ys ++ bs → (xs ≡ ys) × (us ≡ bs)
+pub one_run : (xs ys us bs : List ℕ) → AllDigits 10 xs → AllDigits 10 ys → NoDigit us → NoDigit bs → xs ++ us ≡ ys ++ bs → (xs ≡ ys) × (us ≡ bs)
 one_run xs ys us bs d d' n n' e =
     let k = length xs in
     let same : length ys ≡ k = omega (arith, covers xs ys us bs d n' e, covers ys xs bs us d' n (sym e)) in

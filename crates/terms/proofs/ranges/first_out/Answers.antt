@@ -2,7 +2,7 @@ use Rattle.std.proofs.Common.{◌≡◌, ℕ, ◌+◌, ◌-◌, ◌<◌, ◌≤�
 use Rattle.std.proofs.lemmas.Iterator.{first_from_Range}
 use Rattle.std.specs.Option.{option_map}
 use Rattle.terms.specs.Ranges.{in_range, stands, FirstOut}
-use Rattle.terms.proofs.Walk.{range_told, is_first}
+use Rattle.terms.proofs.Walk.{range_told, one_first}
 use Rattle.terms.proofs.ranges.first_out.Goals as goal
 
 -- the test of a line answers b
@@ -30,4 +30,4 @@ returns c =
     (λ i q k. (search rules, grind (arith, tests))) in
     let line : c.map.result ≡ option_map (λ i. i + 1) c.find.result = search rules in
     let first = rw (← line, c.into-numbers.ensures) at (first_of ns c.find.result (omega arith) place) in
-    record { value = is_first _ _ first; first = first }
+    record { value = one_first _ _ first; first = first }
