@@ -1,5 +1,4 @@
 // A table of texts, good and damaged, each with the answer of its reader.
-use crate::year::LONGEST;
 use records::slot::Slot;
 use refusal::Refusal;
 use std::alloc::{AllocError, Global};
