@@ -6,7 +6,6 @@ ghost use Rattle.book.specs.Limits.{Modest, Few};
 
 use crate::comparison::Sums;
 use crate::line::{Line, Totals};
-use rules::assessment::PerRule;
 use yen::Before;
 
 // The lines of the first settled months. The ghost facts bound their figures and sums, so that no sum overflows.

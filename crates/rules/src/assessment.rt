@@ -17,8 +17,8 @@ pub struct OpenMonth {
     pub assessed: u32,
 }
 
-// The units of a month under a rule: at most ten million for each of 1,488 slots. A ghost field and no `Model`: a struct
-// that holds a value with a `Model` is not copied where it is passed by value and used again.
+// The units of a month under a rule: at most ten million for each of 1,488 slots. A ghost field and no `Model`: the check
+// does not cover a struct that holds a value with a `Model` where it is passed by value and used again.
 #[derive(Clone, Copy, Debug, PartialEq, Eq)]
 pub struct Units {
     pub count: u64,

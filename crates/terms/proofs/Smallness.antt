@@ -84,12 +84,15 @@ rate_small t rate h =
     (λ _. parts_small _ rate (omega (arith, ints, h.rate_bid, h.rate_settled)))
     (λ _ e. let is : one ≡ rate = cc in subst (λ f. Rate f) is (small_wider (omega arith) (omega arith) one_small))
 
+pub itemised_small : (t : Terms) (rate : Fraction) → PriceInRange t → Rate rate → Total (itemised t rate)
+itemised_small t rate h r =
+    plus_small refl (plus_small refl (item_small t.capital _ _ refl h.capital h.deflator) (item_small t.upkeep _ _ refl h.upkeep h.corporate))
+    (times_small refl (item_small t.returns _ _ refl h.returns h.deflator) r)
+
 pub total_small : (t : Terms) (rate : Fraction) → PriceInRange t → Rate rate → Total (total t rate)
 total_small t rate h r =
     cond_both (eqb t.method 1) (itemised t rate) (together t) (λ f. Total f)
-    (λ _.
-    plus_small refl (plus_small refl (item_small t.capital _ _ refl h.capital h.deflator) (item_small t.upkeep _ _ refl h.upkeep h.corporate))
-    (times_small refl (item_small t.returns _ _ refl h.returns h.deflator) r))
+    (λ _. itemised_small t rate h r)
     (λ _. small_wider (omega arith) (omega arith) (together_small t h))
 
 -- the quotient is the whole part

@@ -9,7 +9,7 @@ use Rattle.year_file.specs.Lines.{InForm, WordFirst, letters_of, field, word, sl
 use Rattle.year_file.specs.Bodies.{ShortLines}
 use Rattle.year_file.proofs.Words.{one_word}
 
-one_field : (m n : ℕ) (bs us rest : List ℕ) → Begins field (Short 7) m bs us → Begins field (Short 7) n bs rest → (m ≡ n) × (us ≡ rest)
+pub one_field : (m n : ℕ) (bs us rest : List ℕ) → Begins field (Short 7) m bs us → Begins field (Short 7) n bs rest → (m ≡ n) × (us ≡ rest)
 one_field = one_ended 7 32 (omega arith) (omega arith) (λ d. omega (arith, d.0))
 
 -- what is still to come of a line, from its last part to the first
@@ -25,7 +25,7 @@ after_plan s rest = field s.offer ++ after_offer s rest
 abbrev pub after_supply : Slot → List ℕ → List ℕ
 after_supply s rest = field s.plan ++ after_plan s rest
 
-line_is : (s : Slot) (rest : List ℕ) → slot_text s ++ rest ≡ field s.supply ++ after_supply s rest
+pub line_is : (s : Slot) (rest : List ℕ) → slot_text s ++ rest ≡ field s.supply ++ after_supply s rest
 line_is s rest = simp append_assoc
 
 -- where a line comes first, its parts come after the fields that were read
